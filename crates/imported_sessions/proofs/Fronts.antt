@@ -4,12 +4,13 @@ use Rattle.std.proofs.Common.{Option, Some, None, refl, sym, ap, ◌∙◌, appe
 use Rattle.std.specs.Prelude.{◌&&◌}
 use Rattle.std.specs.List.{flat_map}
 use Rattle.std.proofs.lemmas.List.{append-nil, take_all, take-append-drop}
-use Rattle.bgp_types.specs.Header.{frame_at, kind_in}
+use Rattle.bgp_types.specs.Header.{frame_at}
 use Rattle.bgp_types.specs.Many.{many}
 use Rattle.bgp_types.proofs.FrameLaws.{IsFrame, front_frame, frame_shortens}
 use Rattle.bgp_types.proofs.ManyLaws.{many_none, many_some}
 use Rattle.imported_sessions.specs.Messages.{opening}
 use Rattle.imported_sessions.specs.Opens.{first_open, open_in}
+use Rattle.imported_sessions.proofs.Behind.{joins}
 use Rattle.imported_sessions.proofs.Feeding.{sized}
 
 -- ---- octets up to a length
@@ -38,7 +39,7 @@ no_front = refl
 opening_front : (message : List ℕ) → IsFrame message → (rest : List (List ℕ)) (x : List ℕ)
     → open_in (frame_at (opening (message ∷ rest))) ≡ open_in (Some (message, x))
 opening_front message frame [] x = ap open_in (frame [])
-opening_front message frame (b ∷ rest) x = by_test ((eqb (kind_in b) 4) && leb (length message + length b) 4096) where
+opening_front message frame (b ∷ rest) x = by_test (joins message b) where
   by_test : (t : Bool) → open_in (frame_at (flat_map (λ (m : List ℕ). m) (take (cond t 2 1) (message ∷ b ∷ rest)))) ≡ open_in (Some (message, x))
   by_test true = ap open_in (frame (b ++ []))
   by_test false = ap open_in (frame [])

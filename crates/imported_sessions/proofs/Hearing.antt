@@ -1,5 +1,6 @@
 -- Sessions that take what segments bring.
-use Rattle.std.proofs.Common.{◌≡◌, ℕ, zero, suc, ◌-◌, ◌+◌, ◌≤◌, ◌<◌, max, List, [], ◌∷◌, ◌++◌, length, map, take, drop, get_or, set, cond, eqb, ltb, Bool, true, false}
+use Rattle.std.proofs.Common.{◌≡◌, ℕ, zero, suc, ◌-◌, ◌+◌, ◌≤◌, ◌<◌, max, List, [], ◌∷◌, ◌++◌, length, map, take, drop, get_or, set, cond, eqb, ltb}
+use Rattle.std.proofs.Common.{Bool, true, false}
 use Rattle.std.proofs.Common.{Option, Some, None, refl, sym, ap, ◌∙◌, subst, arith}
 use Rattle.std.specs.Prelude.{◌&&◌, slice_get, filter, option_to_list}
 use Rattle.std.specs.List.{flat_map, range_with_len}
@@ -54,8 +55,8 @@ module _ (peer : ℕ) (stream home octets : List ℕ) (earlier : List Said) wher
         said_is = sym (ap (λ (xs : List (List ℕ)). earlier ++ map (said_by peer) xs) none ∙ append-nil earlier);
       }
 
-  pub takes : (session new : Session) (said : List Said) (message rest : List ℕ) (more : List (List ℕ)) (t : IsTaking peer stream home octets earlier session said)
-      → frame_at session.rest ≡ Some (message, rest)
+  pub takes : (session new : Session) (said : List Said) (message rest : List ℕ) (more : List (List ℕ))
+      (t : IsTaking peer stream home octets earlier session said) → frame_at session.rest ≡ Some (message, rest)
       → Takes t.all message new.opening more → new ≡ record session { opening = new.opening; rest = rest }
       → IsTaking peer stream home octets earlier new (said ++ map (said_by peer) more)
   takes session new said message rest more t front opening is =
@@ -105,7 +106,8 @@ module _ (before : List Flow) (flow : Flow) where
   heard way e =
       stream_more way flow.peer
       ∙ ap (λ (xs : List ℕ). stream way flow.peer before ++ xs)
-      (cond-true (goes way flow.way && eqb flow.peer flow.peer) flow.octets [] (and_from (goes way flow.way) (eqb flow.peer flow.peer) e (eq-eqb flow.peer flow.peer refl)))
+      (cond-true (goes way flow.way && eqb flow.peer flow.peer) flow.octets []
+      (and_from (goes way flow.way) (eqb flow.peer flow.peer) e (eq-eqb flow.peer flow.peer refl)))
 
   pub unheard : (way : Way) (k : ℕ) → goes way flow.way ≡ false → stream way k (before ++ flow ∷ []) ≡ stream way k before
   unheard way k e = silent way k (and_left (goes way flow.way) (eqb flow.peer k) e)
@@ -213,11 +215,13 @@ same_peers peer keeps messages = by_test (keeps peer) refl messages where
       → filter (λ said. keeps said.peer) (map (said_by peer) ms) ≡ cond t (map (said_by peer) ms) []
   by_test true e [] = refl
   by_test true e (m ∷ ms) =
-      cond-true (keeps peer) (said_by peer m ∷ filter (λ said. keeps said.peer) (map (said_by peer) ms)) (filter (λ said. keeps said.peer) (map (said_by peer) ms)) e
+      let rest = filter (λ said. keeps said.peer) (map (said_by peer) ms) in
+      cond-true (keeps peer) (said_by peer m ∷ rest) rest e
       ∙ ap (λ (xs : List Said). said_by peer m ∷ xs) (by_test true e ms)
   by_test false e [] = refl
   by_test false e (m ∷ ms) =
-      cond-false (keeps peer) (said_by peer m ∷ filter (λ said. keeps said.peer) (map (said_by peer) ms)) (filter (λ said. keeps said.peer) (map (said_by peer) ms)) e
+      let rest = filter (λ said. keeps said.peer) (map (said_by peer) ms) in
+      cond-false (keeps peer) (said_by peer m ∷ rest) rest e
       ∙ by_test false e ms
 
 module _ (flows : List Flow) (i : ℕ) (flow : Flow) (low : i < length flows) (at : flow ≡ get_or flows i flow) where

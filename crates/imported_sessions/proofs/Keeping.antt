@@ -1,9 +1,10 @@
 -- Sessions that are kept, one behind another.
-use Rattle.std.proofs.Common.{◌≡◌, ℕ, zero, suc, ◌+◌, ◌<◌, Bool, true, false, cond, List, [], ◌∷◌, ◌++◌, length, map, take, get_or, Option, Some, None}
+use Rattle.std.proofs.Common.{◌≡◌, ℕ, zero, suc, ◌+◌, ◌<◌, Bool, true, false, cond, eqb, not, List, [], ◌∷◌, ◌++◌, length, map, take, get_or, Option}
+use Rattle.std.proofs.Common.{Some, None}
 use Rattle.std.proofs.Common.{refl, sym, ap, ◌∙◌, append_assoc, arith}
-use Rattle.std.specs.Prelude.{filter}
+use Rattle.std.specs.Prelude.{filter, slice_get}
 use Rattle.std.specs.List.{flat_map, filter_map, cons_option, enumerate_from, range_with_len}
-use Rattle.std.specs.Option.{option_map}
+use Rattle.std.specs.Option.{option_map, option_map_or}
 use Rattle.std.proofs.lemmas.Bool.{cond-true, cond-false}
 use Rattle.std.proofs.lemmas.List.{append-nil, length_push, length-take-le, map-id, take_more}
 use Rattle.std.proofs.lemmas.List.Concat.{flat_map-append}
@@ -14,9 +15,13 @@ use Rattle.captured_streams.specs.declared.directed.Peer.{Peer}
 use Rattle.captured_streams.specs.declared.streams.Streams.{Streams}
 use Rattle.imported_sessions.specs.declared.imported.ImportedPeering.{ImportedPeering}
 use Rattle.imported_sessions.specs.declared.imported.Said.{Said}
+use Rattle.imported_sessions.specs.declared.opened.Opened.{Opened}
+use Rattle.imported_sessions.specs.Opened.{AreAllOpened}
 use Rattle.imported_sessions.specs.Imports.{peering_at, peering_with}
 use Rattle.imported_sessions.specs.Opens.{home_open, is_external, remote_open}
 use Rattle.imported_sessions.specs.Steps.{last_of}
+use Rattle.imported_sessions.proofs.Openings.{external_is}
+use Rattle.tcp_seq.proofs.Lookups.{get-append_right}
 
 range_more : (n : ℕ) → range_with_len 0 (n + 1) ≡ range_with_len 0 n ++ n ∷ []
 range_more n =
@@ -89,3 +94,27 @@ module _ (s : Streams) (home_as n : ℕ) (earlier : List Said) (peerings : List 
             ∙ ap (λ (ks : List ℕ). ss ++ flat_map (last_of s.flows) ks) (cond-true (is_external s home_as n) (n ∷ []) [] outside)
             ∙ ap (λ (xs : List Said). ss ++ xs) (append-nil (last_of s.flows n))));
       }
+
+-- ---- the next session
+
+pub some_at : {X : Type 0} (xs : List X) (n : ℕ) → n < length xs → (x : X) × (x ≡ get_or xs n x)
+some_at [] n low = absurd (omega (arith, low))
+some_at (x ∷ xs) zero low = (x, refl)
+some_at (x ∷ xs) (suc n) low = some_at xs n (omega (arith, low))
+
+pub next_at : {X : Type 0} (all before rest : List X) (x : X) → before ++ x ∷ rest ≡ all → slice_get all (length before) ≡ Some x
+next_at all before rest x parts =
+    ap (λ ys. slice_get ys (length before)) (sym parts) ∙ get-append_right before (x ∷ rest) (length before) 0 (omega arith)
+
+pub external_here : (s : Streams) (opened : List Opened) → AreAllOpened s opened → (home_as k : ℕ) (session : Opened) → slice_get opened k ≡ Some session
+    → is_external s home_as k ≡ not (eqb session.remote_as home_as)
+external_here s opened all home_as k session at =
+    sym (external_is s opened all home_as k) ∙ ap (λ (o : Option Opened). option_map_or (λ session. not (eqb session.remote_as home_as)) o false) at
+
+pub same_kept : (s : Streams) (home_as n m : ℕ) (earlier : List Said) (ps qs : List ImportedPeering) (internal : ℕ) (ss ts : List Said)
+    → AreKept s home_as n earlier ps internal ss → m ≡ n → qs ≡ ps → ts ≡ ss → AreKept s home_as m earlier qs internal ts
+same_kept s home_as n m earlier ps qs internal ss ts k size peerings steps = record {
+  peerings_are = peerings ∙ k.peerings_are ∙ ap (λ j. filter_map (peering_at s home_as) (enumerate_from 0 (take j s.peers))) (sym size);
+  counted = ap (λ (xs : List ImportedPeering). internal + length xs) peerings ∙ k.counted ∙ sym size;
+  steps_are = steps ∙ k.steps_are ∙ ap (λ j. earlier ++ flat_map (last_of s.flows) (filter (is_external s home_as) (range_with_len 0 j))) (sym size);
+}

@@ -9,3 +9,4 @@ pub mod Telling
 pub mod Sizes
 pub mod Keeping
 pub mod Pieces
+pub mod Importing

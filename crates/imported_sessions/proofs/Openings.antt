@@ -1,11 +1,16 @@
 -- Sessions whose remotes begin with sound OPENs.
-use Rattle.std.proofs.Common.{◌≡◌, ℕ, zero, suc, ◌+◌, ◌<◌, ◌≤◌, Bool, true, false, not, eqb, ltb, List, [], ◌∷◌, ◌++◌, length, map, drop, cond}
+use Rattle.std.proofs.Common.{◌≡◌, ℕ, zero, suc, ◌+◌, ◌<◌, ◌≤◌, Bool, true, false, not, eqb, ltb, List, [], ◌∷◌, ◌++◌, length, map, take, drop}
+use Rattle.std.proofs.Common.{get_or, cond, is_some}
 use Rattle.std.proofs.Common.{Option, Some, None, IsSome, refl, sym, ap, ◌∙◌, subst, inl, inr, arith}
-use Rattle.std.specs.Prelude.{◌&&◌, slice_get, Result, Ok, Err}
+use Rattle.std.specs.Prelude.{◌&&◌, ◌||◌, slice_get, IfOk, Result, Ok, Err}
+use Rattle.std.specs.BTreeSet.{BTreeSet, contains}
 use Rattle.std.specs.List.{filter_map, cons_option, list_any, range_with_len}
+use Rattle.std.specs.Ordering.{nat_cmp}
 use Rattle.std.specs.Option.{option_map_or}
 use Rattle.std.specs.Result.{result_ok}
 use Rattle.std.proofs.lemmas.Bool.{and_left, lt-ltb, le-ltb, cases_lt}
+use Rattle.std.proofs.lemmas.List.{append-nil, drop_more, take-append-drop, take_more}
+use Rattle.std.proofs.lemmas.List.Elements.{filter_map-append}
 use Rattle.std.proofs.lemmas.Option.{none-some, slice_get_within}
 use Rattle.bgp_types.specs.declared.fault.Expected.{Expected}
 use Rattle.bgp_types.specs.declared.message.Message.{Message}
@@ -18,6 +23,7 @@ use Rattle.bgp_types.specs.FirstFault.{body_of, is_in_state, message_of, open_me
 use Rattle.bgp_types.specs.Header.{frame_at, kind_in}
 use Rattle.bgp_types.specs.OpenBody.{open_of}
 use Rattle.bgp_wire.proofs.FrameLaws.{sound_is}
+use Rattle.graft_edge.specs.declared.memory.NoMemory.{NoMemory}
 use Rattle.tcp_seq.specs.declared.segment.Way.TheVariants.{Home, Remote}
 use Rattle.captured_streams.specs.declared.streams.Streams.{Streams}
 use Rattle.imported_sessions.specs.declared.heard.Session.{Session}
@@ -25,9 +31,11 @@ use Rattle.imported_sessions.specs.declared.opened.Opened.{Opened}
 use Rattle.imported_sessions.specs.Heard.{opening_of, session_at, session_of}
 use Rattle.imported_sessions.specs.Messages.{stream, messages as messages_of, opening, unfinished}
 use Rattle.imported_sessions.specs.Opened.{AreAllOpened, AreOpened, IsOpened, is_external_in, open_told}
-use Rattle.imported_sessions.specs.Opens.{any_as, as_of, first_open, has_as, home_open, home_opens, is_external, remote_open, remote_opens}
+use Rattle.imported_sessions.specs.Opens.{any_as, as_of, first_home, first_open, has_as, home_open, home_opens, is_external, IsHomeAs, remote_open}
+use Rattle.imported_sessions.specs.Opens.{remote_opens}
 use Rattle.imported_sessions.proofs.Fronts.{first_octets_read, opening_reads}
 use Rattle.imported_sessions.proofs.Packing.{in_more}
+use Rattle.imported_sessions.proofs.Ranges.{next_is}
 
 -- ---- one session
 
@@ -131,6 +139,52 @@ module _ (s : Streams) (opened : List Opened) (all : AreAllOpened s opened) wher
     unfolding told
     external_is = external_at (slice_get opened k) refl
 
+-- each session that is there begins with an OPEN
+pub each_opens : (s : Streams) (opened : List Opened) → AreOpened s opened → (k : ℕ) → k < length opened → IsSome (remote_open s k)
+each_opens s opened all k low = by_session (slice_get opened k) refl where
+  by_session : (o : Option Opened) → slice_get opened k ≡ o → IsSome (remote_open s k)
+  by_session None e = absurd (not_past opened k low e)
+  by_session (Some session) e = ap is_some (all k session e).begins
+
+-- ---- the AS of the home side
+
+module _ {A B : Type 0} (h : A → Option B) (xs : List A) (i : ℕ) (x : A) (low : i < length xs) (at : x ≡ get_or xs i x)
+    (none : filter_map h (take i xs) ≡ []) where
+  pub first_found : (y : B) → h x ≡ Some y → Some y ≡ slice_get (filter_map h xs) 0
+  first_found y some = sym (
+      ap (λ (ys : List A). slice_get (filter_map h ys) 0) (sym (take-append-drop i xs))
+      ∙ ap (λ (ys : List B). slice_get ys 0) (filter_map-append h (take i xs) (drop i xs) ∙ ap (λ (ys : List B). ys ++ filter_map h (drop i xs)) none)
+      ∙ ap (λ (ys : List A). slice_get (filter_map h ys) 0) (drop_more xs i x low)
+      ∙ ap (λ (y : A). slice_get (cons_option (h y) (filter_map h (drop (i + 1) xs))) 0) (sym at)
+      ∙ ap (λ o. slice_get (cons_option o (filter_map h (drop (i + 1) xs))) 0) some)
+
+  pub none_found : h x ≡ None → filter_map h (take (i + 1) xs) ≡ []
+  none_found is =
+      ap (filter_map h) (take_more xs i x low) ∙ filter_map-append h (take i xs) (get_or xs i x ∷ [])
+      ∙ ap (λ (y : A). filter_map h (take i xs) ++ cons_option (h y) []) (sym at) ∙ ap (λ o. filter_map h (take i xs) ++ cons_option o []) is
+      ∙ append-nil (filter_map h (take i xs)) ∙ none
+
+any_as_is : (a : ℕ) (opened : List Opened)
+    → ((k : ℕ) (session : Opened) → slice_get opened k ≡ Some session → session.remote_as ≡ as_of session.remote)
+    → list_any (λ session. eqb session.remote_as a) opened ≡ list_any (has_as a) (map (λ session. session.remote) opened)
+any_as_is a [] each = refl
+any_as_is a (session ∷ opened) each =
+    ap (λ (n : ℕ). eqb n a || list_any (λ session. eqb session.remote_as a) opened) (each 0 session refl)
+    ∙ ap (λ (t : Bool). has_as a session.remote || t) (any_as_is a opened (λ k other at. each (suc k) other at))
+
+-- the least AS that no remote has is that of a home side whose OPENs weren't captured
+pub home_free : (opened : List Opened) (r : Result ℕ NoMemory) (ases : BTreeSet ℕ) → IfOk r (λ a. 64512 ≤ a) → IfOk r (λ a. contains nat_cmp ases a ≡ false)
+    → IfOk r (λ a. (b : ℕ) → 64512 ≤ b → b < a → contains nat_cmp ases b ≡ true)
+    → ((a : ℕ) → contains nat_cmp ases a ≡ list_any (λ session. eqb session.remote_as a) opened)
+    → ((s : Streams) → AreAllOpened s opened → None ≡ first_home s)
+    → IfOk r (λ a. (s : Streams) → AreAllOpened s opened → IsHomeAs (remote_opens s) (first_home s) a)
+home_free opened (Err e) ases from free least are none = tt
+home_free opened (Ok a) ases from free least are none = λ s all.
+    let has : (b : ℕ) → contains nat_cmp ases b ≡ list_any (has_as b) (remote_opens s) =
+    λ b. are b ∙ any_as_is b opened (λ k session at. (all.each k session at).as_is) ∙ ap (list_any (has_as b)) (sym (remotes_are s opened all)) in
+    subst (λ (o : Option OpenMsg). IsHomeAs (remote_opens s) o a) (none s all)
+    (record { from = from; free = sym (has a) ∙ free; least = λ b low high. sym (has b) ∙ least b low high })
+
 -- ---- reading an OPEN
 
 open_frame : (frame : List ℕ) → frame_at frame ≡ Some (frame, []) → kind_in frame ≡ 1
@@ -166,3 +220,12 @@ module _ (frame : List ℕ) (whole : frame_at frame ≡ Some (frame, [])) (kind 
       by_result : (r : Result OpenMsg Notice) → fault_in (open_message r) ≡ Some n → None ≡ result_ok r
       by_result (Ok o) e = absurd cc
       by_result (Err m) e = refl
+
+-- ---- the next session
+
+pub next_heard : (s : Streams) (sessions before rest : List Session) (session : Session)
+    → sessions ≡ map (session_at s.flows) (range_with_len 0 (length s.peers)) → before ++ session ∷ rest ≡ sessions
+    → (length before < length s.peers) × HasHeard s (length before) session
+next_heard s sessions before rest session is parts =
+    let next = next_is (session_at s.flows) (length s.peers) sessions before rest session is parts in
+    (next.0, has_heard s (length before) session next.1)

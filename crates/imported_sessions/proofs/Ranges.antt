@@ -1,9 +1,9 @@
 -- Lists that are made from ranges of numbers.
 use Rattle.std.proofs.Common.{◌≡◌, ℕ, zero, suc, ◌+◌, ◌<◌, List, [], ◌∷◌, ◌++◌, length, map, set, get_or, Some, refl, sym, ap, ◌∙◌, inl, inr, subst}
-use Rattle.std.proofs.Common.{append_assoc, length-set, arith}
+use Rattle.std.proofs.Common.{append_assoc, length-append, length-set, arith}
 use Rattle.std.specs.List.{flat_map, range_with_len}
 use Rattle.std.proofs.lemmas.Bool.{cases_eq}
-use Rattle.std.proofs.lemmas.List.{append-nil, get_or-set_same, get_or-set_other}
+use Rattle.std.proofs.lemmas.List.{append-nil, get_or_at, get_or-set_same, get_or-set_other}
 use Rattle.std.proofs.lemmas.List.FromFn.{length-map-range_with_len, get_or-map-range_with_len, fill_by_all}
 
 module _ {A : Type 0} (f : ℕ → List A) where
@@ -39,3 +39,18 @@ module _ {A : Type 0} (f g : ℕ → A) (count : ℕ) (xs : List A) (is : xs ≡
 
   pub none_set : ((k : ℕ) → k < count → f k ≡ g k) → xs ≡ map g (range_with_len 0 count)
   none_set same = fill_by_all g xs count (g 0) len (λ k low. at k (g 0) low ∙ same k low)
+
+-- the next element of such a list, behind others
+pub next_is : {A : Type 0} (f : ℕ → A) (count : ℕ) (xs before rest : List A) (x : A) → xs ≡ map f (range_with_len 0 count) → before ++ x ∷ rest ≡ xs
+    → (length before < count) × (x ≡ f (length before))
+next_is f count xs before rest x is parts =
+    let size : length (before ++ x ∷ rest) ≡ length before + suc (length rest) = length-append before (x ∷ rest) in
+    let below : length before < count = omega (arith, size, ap length parts, ap length is, length-map-range_with_len f 0 count) in (
+      below,
+      sym (get_or_at before x rest x (length before) refl) ∙ ap (λ ys. get_or ys (length before) x) parts
+          ∙ at f f count xs is (length before) x below,
+    )
+
+-- where nothing is left, there are as many as there were
+pub all_counted : {A : Type 0} (xs before rest : List A) → before ++ rest ≡ xs → length rest ≡ 0 → length before ≡ length xs
+all_counted xs before rest parts none = omega (arith, none, ap length parts, length-append before rest)

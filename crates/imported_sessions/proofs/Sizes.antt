@@ -19,7 +19,8 @@ use Rattle.imported_sessions.specs.declared.imported.Said.{Said}
 use Rattle.imported_sessions.specs.Imports.{AreSmall, IsImport, peering_at}
 use Rattle.imported_sessions.specs.Messages.{messages, opening, opening_len, stream, unfinished, ended_at, ended_by, told}
 use Rattle.imported_sessions.specs.Opens.{is_external}
-use Rattle.imported_sessions.specs.Steps.{ArePacked, IsStep, last_of, octets_in, pieces}
+use Rattle.imported_sessions.specs.Steps.{IsStep, last_of, octets_in, pieces}
+use Rattle.imported_sessions.proofs.Behind.{joins}
 use Rattle.imported_sessions.proofs.Feeding.{IsSized, parts, sized}
 use Rattle.imported_sessions.specs.Heard.{said_by}
 use Rattle.imported_sessions.proofs.Telling.{peering_tells}
@@ -33,10 +34,10 @@ module _ {X Y : Type 0} (P : Y → Type 0) where
 
   all_found : (f : X → Option Y) → ((x : X) (y : Y) → f x ≡ Some y → P y) → (xs : List X) → All P (filter_map f xs)
   all_found f each [] = All-nil P
-  all_found f each (x ∷ xs) = by_front (f x) refl where
-    by_front : (o : Option Y) → f x ≡ o → All P (cons_option o (filter_map f xs))
-    by_front None e = all_found f each xs
-    by_front (Some y) e = All-cons P y (filter_map f xs) (each x y e) (all_found f each xs)
+  all_found f each (x ∷ xs) = by_front (all_found f each xs) (f x) refl where
+    by_front : All P (filter_map f xs) → (o : Option Y) → f x ≡ o → All P (cons_option o (filter_map f xs))
+    by_front rest None e = rest
+    by_front rest (Some y) e = All-cons P y (filter_map f xs) (each x y e) rest
 
 all_in_range : (P : ℕ → Type 0) (a n : ℕ) → ((k : ℕ) → k < a + n → P k) → All P (range_with_len a n)
 all_in_range P a zero each = All-nil P
@@ -70,8 +71,8 @@ opening_short : (all : List (List ℕ)) → All IsSized all → length (opening 
 opening_short [] sound = omega arith
 opening_short (a ∷ []) sound =
     let short = (All-head IsSized a [] sound).short in let same : length (a ++ []) ≡ length a = ap length (append-nil a) in omega arith
-opening_short (a ∷ b ∷ all) sound = by_test ((eqb (kind_in b) 4) && leb (length a + length b) 4096) refl where
-  by_test : (t : Bool) → ((eqb (kind_in b) 4) && leb (length a + length b) 4096) ≡ t
+opening_short (a ∷ b ∷ all) sound = by_test (joins a b) refl where
+  by_test : (t : Bool) → (joins a b) ≡ t
       → length (flat_map (λ (m : List ℕ). m) (take (cond t 2 1) (a ∷ b ∷ all))) ≤ 4096
   by_test true e =
       let fits = leb-true (length a + length b) 4096 (and_parts (eqb (kind_in b) 4) (leb (length a + length b) 4096) e).1 in
@@ -99,8 +100,10 @@ steps_small (part ∷ parts) [] count each sound = absurd (omega (arith, count))
 steps_small (part ∷ parts) (step ∷ steps) count each sound =
     let s = each 0 part step refl refl in
     let rest = flat_map (λ (part : List Said). part) parts in
-    let front : All IsSizedSaid part = subst (All IsSizedSaid) (take_at part rest (length part) refl) (All-take IsSizedSaid (length part) (part ++ rest) sound) in
-    let behind : All IsSizedSaid rest = subst (All IsSizedSaid) (drop_at part rest (length part) refl) (All-drop IsSizedSaid (length part) (part ++ rest) sound) in
+    let front : All IsSizedSaid part =
+    subst (All IsSizedSaid) (take_at part rest (length part) refl) (All-take IsSizedSaid (length part) (part ++ rest) sound) in
+    let behind : All IsSizedSaid rest =
+    subst (All IsSizedSaid) (drop_at part rest (length part) refl) (All-drop IsSizedSaid (length part) (part ++ rest) sound) in
     let some : 1 ≤ length step.octets = omega (arith, ap length s.octets, some_octets part s.some front) in
     All-cons IsSmallStep step steps (some, s.short)
     (steps_small parts steps (omega (arith, count)) (λ n part step at there. each (suc n) part step at there) behind)

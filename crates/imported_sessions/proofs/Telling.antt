@@ -6,14 +6,14 @@ use Rattle.std.specs.List.{flat_map, filter_map, cons_option, enumerate_from, ra
 use Rattle.std.specs.Option.{option_map}
 use Rattle.std.specs.Fork.{slice_chunk}
 use Rattle.std.proofs.lemmas.Bool.{cond-true, cond-false, cases_eq, eq-eqb, eqb-true, ne_eqb, and_parts, false≢true, and_right, ltb-true}
-use Rattle.std.proofs.lemmas.List.{append-nil, drop_all, drop-append-le, drop_at, take-append-drop, take-take, take_all, take_more, drop-take}
+use Rattle.std.proofs.lemmas.List.{append-nil, drop_all, drop-append-le, drop_at, take-append-drop, take-take, take_all, drop-take}
 use Rattle.std.proofs.lemmas.List.Concat.{flat_map-append}
 use Rattle.std.proofs.lemmas.List.Elements.{All-head, All-tail}
 use Rattle.std.proofs.lemmas.List.Folds.{flat_map-map}
 use Rattle.std.proofs.lemmas.Option.{none-some, same_Some, slice_get_within, get_or_from_slice_get}
 use Rattle.tcp_seq.specs.declared.segment.Way.TheVariants.{Home}
 use Rattle.bgp_types.specs.declared.message.OpenMsg.{OpenMsg}
-use Rattle.bgp_types.specs.Header.{frame_at, kind_in}
+use Rattle.bgp_types.specs.Header.{frame_at}
 use Rattle.bgp_types.specs.Many.{many}
 use Rattle.bgp_types.proofs.ManyLaws.{many_none}
 use Rattle.captured_streams.specs.declared.directed.Peer.{Peer}
@@ -26,10 +26,11 @@ use Rattle.imported_sessions.specs.Imports.{IsImport, SayAll, octets_by, peering
 use Rattle.imported_sessions.specs.Messages.{messages, opening, opening_len, stream, unfinished, octets_of, goes, ended_at, ended_by, told}
 use Rattle.imported_sessions.specs.Opens.{home_open, is_external, remote_open}
 use Rattle.imported_sessions.specs.Steps.{ArePacked, IsStep, last_of, octets_in, pieces}
+use Rattle.imported_sessions.proofs.Behind.{behind_more}
 use Rattle.imported_sessions.proofs.Feeding.{fed, parts}
 use Rattle.imported_sessions.proofs.Fronts.{no_front}
 use Rattle.imported_sessions.specs.Heard.{said_by}
-use Rattle.imported_sessions.proofs.Hearing.{silent, stream_more}
+use Rattle.imported_sessions.proofs.Hearing.{flows_more, silent, stream_more}
 use Rattle.imported_sessions.proofs.Openings.{not_past}
 use Rattle.imported_sessions.proofs.Ranges.{one_number_more}
 
@@ -67,11 +68,11 @@ module _ (keeps : ℕ → Bool) (k : ℕ) (kept : keeps k ≡ true) (h : ℕ →
         let rest = once (a + 1) n (omega (arith, low, ne)) (omega (arith, high)) in
         by_test (keeps a) (others a ne) rest
   ]
-  where
-    by_test : (t : Bool) → h a ≡ [] → flat_map h (filter keeps (range_with_len (a + 1) n)) ≡ h k
-        → flat_map h (cond t (a ∷ filter keeps (range_with_len (a + 1) n)) (filter keeps (range_with_len (a + 1) n))) ≡ h k
-    by_test true none rest = ap (λ xs. xs ++ flat_map h (filter keeps (range_with_len (a + 1) n))) none ∙ rest
-    by_test false none rest = rest
+    where
+      by_test : (t : Bool) → h a ≡ [] → flat_map h (filter keeps (range_with_len (a + 1) n)) ≡ h k
+          → flat_map h (cond t (a ∷ filter keeps (range_with_len (a + 1) n)) (filter keeps (range_with_len (a + 1) n))) ≡ h k
+      by_test true none rest = ap (λ xs. xs ++ flat_map h (filter keeps (range_with_len (a + 1) n))) none ∙ rest
+      by_test false none rest = rest
 
 -- ---- the octets of one remote
 
@@ -91,21 +92,20 @@ module _ (k : ℕ) where
   by_kept : (keeps : ℕ → Bool) → keeps k ≡ true → (all : List Said)
       → flat_map (octets_by k) (filter (λ said. keeps said.peer) all) ≡ flat_map (octets_by k) all
   by_kept keeps kept [] = refl
-  by_kept keeps kept (said ∷ all) = by_test (keeps said.peer) refl where
-    by_test : (t : Bool) → keeps said.peer ≡ t
+  by_kept keeps kept (said ∷ all) = by_test (by_kept keeps kept all) (keeps said.peer) refl where
+    by_test : flat_map (octets_by k) (filter (λ said. keeps said.peer) all) ≡ flat_map (octets_by k) all → (t : Bool) → keeps said.peer ≡ t
         → flat_map (octets_by k) (cond t (said ∷ filter (λ said. keeps said.peer) all) (filter (λ said. keeps said.peer) all))
         ≡ octets_by k said ++ flat_map (octets_by k) all
-    by_test true e = ap (λ (xs : List ℕ). octets_by k said ++ xs) (by_kept keeps kept all)
-    by_test false e =
+    by_test rest true e = ap (λ (xs : List ℕ). octets_by k said ++ xs) rest
+    by_test rest false e =
         let ne : said.peer ≡ k → ⊥ = λ same. false≢true (sym e ∙ ap keeps same ∙ kept) in
-        by_kept keeps kept all
-        ∙ ap (λ (xs : List ℕ). xs ++ flat_map (octets_by k) all) (sym (cond-false (eqb said.peer k) said.octets [] (ne_eqb said.peer k ne)))
+        rest ∙ ap (λ (xs : List ℕ). xs ++ flat_map (octets_by k) all) (sym (cond-false (eqb said.peer k) said.octets [] (ne_eqb said.peer k ne)))
 
   -- ---- in steps
 
   by_part : (peer : ℕ) (part : List Said) → All (λ said. said.peer ≡ peer) part → flat_map (octets_by k) part ≡ cond (eqb peer k) (octets_in part) []
   by_part peer [] one = both (eqb peer k) where
-    both : (t : Bool) → [] ≡ cond t [] []
+    both : (t : Bool) → ◌≡◌ {A = List ℕ} [] (cond t [] [])
     both true = refl
     both false = refl
   by_part peer (said ∷ part) one =
@@ -135,29 +135,6 @@ module _ (k : ℕ) where
   by_steps : (all steps : List Said) → ArePacked all steps → flat_map (octets_by k) steps ≡ flat_map (octets_by k) all
   by_steps all steps p = sym (by_parts p.parts steps p.count p.each) ∙ ap (flat_map (octets_by k)) p.all_are
 
-  -- ---- behind an opening
-
-  one_or_two : (t : Bool) → (1 ≤ cond t 2 1) × (cond t 2 1 ≤ 2)
-  one_or_two true = (omega arith, omega arith)
-  one_or_two false = (omega arith, omega arith)
-
-  behind_more : (before more : List (List ℕ))
-      → drop (opening_len (before ++ more)) (before ++ more)
-      ≡ drop (opening_len before) before ++ drop (max (opening_len (before ++ more)) (length before)) (before ++ more)
-  behind_more [] more = let same : max (opening_len more) 0 ≡ opening_len more = omega arith in ap (λ n. drop n more) (sym same)
-  behind_more (a ∷ []) [] = refl
-  behind_more (a ∷ []) (b ∷ more) =
-      let len = cond ((eqb (kind_in b) 4) && leb (length a + length b) 4096) 2 1 in
-      let some : 1 ≤ len = (one_or_two ((eqb (kind_in b) 4) && leb (length a + length b) 4096)).0 in
-      let same : max len 1 ≡ len = omega (arith, some) in
-      ap (λ n. drop n (a ∷ b ∷ more)) (sym same)
-  behind_more (a ∷ b ∷ before) more =
-      let len = cond ((eqb (kind_in b) 4) && leb (length a + length b) 4096) 2 1 in
-      let few : len ≤ 2 = (one_or_two ((eqb (kind_in b) 4) && leb (length a + length b) 4096)).1 in
-      let size : length (a ∷ b ∷ before) ≡ max len (length (a ∷ b ∷ before)) = omega (arith, few) in
-      drop-append-le len (a ∷ b ∷ before) more (omega (arith, few))
-      ∙ ap (λ xs. drop len (a ∷ b ∷ before) ++ xs) (sym (drop_at (a ∷ b ∷ before) more (max len (length (a ∷ b ∷ before))) size))
-
   -- ---- in the order of the capture
 
   module _ (flows : List Flow) where
@@ -171,7 +148,7 @@ module _ (k : ℕ) where
     none_first = ap (λ (m : List (List ℕ) × List ℕ). joined (drop (opening_len m.0) m.0)) (many_none frame_at [] no_front)
 
     more_at : (n : ℕ) (flow : Flow) → slice_get flows n ≡ Some flow → take (n + 1) flows ≡ take n flows ++ flow ∷ []
-    more_at n flow at = take_more flows n flow (slice_get_within flows n flow at) ∙ ap (λ (f : Flow). take n flows ++ f ∷ []) (get_or_from_slice_get flows n flow flow at)
+    more_at n flow at = flows_more flows n flow (slice_get_within flows n flow at) (sym (get_or_from_slice_get flows n flow flow at))
 
     ended_one : (n : ℕ) (o : Option Flow) → slice_get flows n ≡ o → n < length flows
         → told_so_far n ++ flat_map (octets_by k) (ended_by flows n o) ≡ told_so_far (n + 1)
@@ -197,7 +174,8 @@ module _ (k : ℕ) where
           ∙ ap (λ (xs : List (List ℕ)). joined (drop (opening_len xs) xs)) (sym parts)
       | inr ne ↦
           let same : messages k (take n flows) ≡ messages k (take (n + 1) flows) =
-          ap (λ (xs : List ℕ). (many frame_at xs).0) (sym (silent (take n flows) flow Home k (and_right (goes Home flow.way) (eqb flow.peer k) (ne_eqb flow.peer k ne))))
+          let quiet = and_right (goes Home flow.way) (eqb flow.peer k) (ne_eqb flow.peer k ne) in
+          ap (λ (xs : List ℕ). (many frame_at xs).0) (sym (silent (take n flows) flow Home k quiet))
           ∙ ap (λ (fs : List Flow). messages k fs) (sym (more_at n flow at)) in
           let all = messages flow.peer (take (suc n) flows) in
           ap (λ (xs : List ℕ). told_so_far n ++ xs)
@@ -260,15 +238,17 @@ peering_tells s home_as k peer p e = by_test (is_external s home_as k) refl (rem
 
 found : {X Y : Type 0} (f : X → Option Y) (xs : List X) (n : ℕ) (y : Y) → slice_get (filter_map f xs) n ≡ Some y → (x : X) × (f x ≡ Some y)
 found f [] n y e = absurd (none-some y e)
-found {X} {Y} f (x ∷ xs) n y e = by_front (f x) refl n e where
-  by_front : (o : Option Y) → f x ≡ o → (n : ℕ) → slice_get (cons_option o (filter_map f xs)) n ≡ Some y → (x : X) × (f x ≡ Some y)
-  by_front None is n e = found f xs n y e
-  by_front (Some z) is zero e = (x, is ∙ e)
-  by_front (Some z) is (suc n) e = found f xs n y e
+found {X} {Y} f (x ∷ xs) n y e = by_front (λ m e. found f xs m y e) (f x) refl n e where
+  by_front : ((m : ℕ) → slice_get (filter_map f xs) m ≡ Some y → (x : X) × (f x ≡ Some y)) → (o : Option Y) → f x ≡ o → (n : ℕ)
+      → slice_get (cons_option o (filter_map f xs)) n ≡ Some y → (x : X) × (f x ≡ Some y)
+  by_front rest None is n e = rest n e
+  by_front rest (Some z) is zero e = (x, is ∙ e)
+  by_front rest (Some z) is (suc n) e = rest n e
 
 pub says_all : (s : Streams) (i : Imported) → IsImport s i → SayAll s i
 says_all s i imported n p at =
-    let f = found (peering_at s i.home_as) (enumerate_from 0 s.peers) n p (ap (λ (ps : List ImportedPeering). slice_get ps n) (sym imported.peerings_are) ∙ at) in
+    let f = found (peering_at s i.home_as) (enumerate_from 0 s.peers) n p
+    (ap (λ (ps : List ImportedPeering). slice_get ps n) (sym imported.peerings_are) ∙ at) in
     let t = peering_tells s i.home_as f.0.0 f.0.1 p f.1 in
     let k = p.peer in
     let keeps = is_external s i.home_as in
@@ -280,7 +260,8 @@ says_all s i imported n p at =
     let rest = unfinished k s.flows in
     let behind : flat_map (octets_by k) (flat_map (last_of s.flows) (filter keeps (range_with_len 0 count))) ≡ rest =
     flat_map-flat_map (octets_by k) (last_of s.flows) (filter keeps (range_with_len 0 count))
-    ∙ once keeps k kept (λ j. flat_map (octets_by k) (last_of s.flows j)) (λ j ne. by_other k j ne (pieces (unfinished j s.flows))) 0 count (omega arith) (omega (arith, low))
+    ∙ once keeps k kept (λ j. flat_map (octets_by k) (last_of s.flows j)) (λ j ne. by_other k j ne (pieces (unfinished j s.flows))) 0 count
+    (omega arith) (omega (arith, low))
     ∙ by_it k (pieces rest) ∙ joined_pieces rest in
     let steps : flat_map (octets_by k) i.steps ≡ joined (drop (opening_len all) all) ++ rest =
     ap (flat_map (octets_by k)) imported.steps.steps_are

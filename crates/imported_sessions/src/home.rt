@@ -1,6 +1,6 @@
 //! The AS of the home side.
 
-ghost use Rattle.std.specs.Prelude.{ℕ, ◌≡◌, ◌<◌, ◌≤◌, ◌==◌, true, false, IfOk, option_copied};
+ghost use Rattle.std.specs.Prelude.{ℕ, ◌≡◌, ◌<◌, ◌≤◌, ◌==◌, true, false, IfOk, option_copied, option_map};
 ghost use Rattle.std.specs.BTreeSet.{contains};
 ghost use Rattle.std.specs.List.{list_any};
 ghost use Rattle.std.specs.Ordering.{nat_cmp};
@@ -17,7 +17,7 @@ use std::collections::BTreeSet;
 const FIRST_PRIVATE: u32 = 64512;
 
 /// Returns the first OPEN of the home side, if one was captured.
-pub(crate) fn first_home(opened: &[Opened]) -> Option<&OpenMsg>
+fn first_home(opened: &[Opened]) -> Option<&OpenMsg>
     ensures { (s : Streams) → AreAllOpened s opened.now → option_copied result ≡ first_home_lem s }
 {
     for session in opened {
@@ -26,6 +26,13 @@ pub(crate) fn first_home(opened: &[Opened]) -> Option<&OpenMsg>
         }
     }
     None
+}
+
+/// Returns the BGP Identifier of that OPEN.
+pub(crate) fn home_id(opened: &[Opened]) -> Option<u32>
+    ensures { (s : Streams) → AreAllOpened s opened.now → result ≡ option_map (λ o. o.identifier) (first_home_lem s) }
+{
+    Some(first_home(opened)?.identifier)
 }
 
 /// Returns the ASes of the remotes.

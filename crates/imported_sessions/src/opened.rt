@@ -1,6 +1,6 @@
 //! The OPENs of sessions.
 
-ghost use Rattle.std.specs.Prelude.{◌≡◌, ◌≤◌, [], length, map, drop, Some, Err, IfOk};
+ghost use Rattle.std.specs.Prelude.{◌≡◌, ◌<◌, ◌≤◌, [], length, map, drop, slice_get, Some, Err, IfOk};
 ghost use Rattle.std.specs.List.{range_with_len};
 ghost use Rattle.std.specs.Result.{result_ok};
 ghost use Rattle.bgp_types.specs.Header.{frame_at, kind_in};
@@ -18,7 +18,7 @@ use bgp_types::types::OPEN;
 use bgp_types::{Expected, HEADER, Message, NoMemory, Octets, OpenMsg, SessionState};
 use bgp_wire::{CodecFault, as_said, read_message};
 use byteorder::{BigEndian, ByteOrder};
-use captured_streams::Streams;
+use captured_streams::{Peer, Streams};
 use graft_edge::{ByteQueue, Items};
 use std::alloc::Global;
 
@@ -108,6 +108,14 @@ fn read_open(alloc: Global, octets: &[u8]) -> Result<Option<OpenMsg>, NoMemory>
     Ok(with_as(message))
 }
 
+/// Returns the ends of the connection with this number.
+pub(crate) fn ends(peers: &[Peer], number: usize) -> Peer
+    requires { number < length peers.now }
+    ensures { slice_get peers.now number ≡ Some result }
+{
+    peers[number]
+}
+
 /// Reads the OPENs of sessions.
 pub(crate) fn open_all(
     alloc: Global,
@@ -121,7 +129,7 @@ pub(crate) fn open_all(
     let mut all = Items::new(alloc);
     for session in sessions {
         let Some(remote) = read_open(alloc, &session.opening.octets)? else {
-            return Err(ImportStop::NoOpen(streams.peers[session.peer].remote));
+            return Err(ImportStop::NoOpen(ends(&streams.peers, session.peer).remote));
         };
         all.push(Opened {
             peer: session.peer,

@@ -10,7 +10,7 @@ ghost use Rattle.imported_sessions.specs.Opens.{home_open, is_external};
 ghost use Rattle.imported_sessions.specs.Steps.{last_of};
 
 use crate::imported::{ImportedPeering, Said};
-use crate::opened::Opened;
+use crate::opened::{Opened, ends};
 use crate::steps::push_octets;
 use bgp_types::{Cap, NoMemory, OpenMsg};
 use bgp_wire::as_said;
@@ -45,8 +45,8 @@ fn has_unicast(message: &OpenMsg) -> bool
 }
 
 /// Returns the peering of a session between these ends.
-fn peering(ends: &Peer, session: Opened) -> ImportedPeering
-    ensures { (s : StreamsValue) (k : ℕ) → IsOpened s k session → result ≡ peering_with s k ends.now session.remote (home_open s k) }
+fn peering(ends: Peer, session: Opened) -> ImportedPeering
+    ensures { (s : StreamsValue) (k : ℕ) → IsOpened s k session → result ≡ peering_with s k ends session.remote (home_open s k) }
 {
     let as4 = is_wide(session.home.as_ref().unwrap_or(&session.remote));
     let (home_hold, unicast) = match &session.home {
@@ -101,7 +101,7 @@ pub(crate) fn keep(
         }
         push_octets(alloc, steps, session.peer, session.rest.as_slice())?;
         kept.peerings
-            .push(peering(&streams.peers[session.peer], session))?;
+            .push(peering(ends(&streams.peers, session.peer), session))?;
     }
     Ok(kept)
 }

@@ -6,7 +6,7 @@ ghost use Rattle.imported_sessions.specs.declared.sessions.ImportStop.TheVariant
 ghost use Rattle.imported_sessions.specs.Imports.{AreSmall, IsFirstWithoutOpen, IsImport, SayAll};
 
 use crate::heard::hear;
-use crate::home::{first_home, home_as};
+use crate::home::{home_as, home_id};
 use crate::imported::Imported;
 use crate::opened::open_all;
 use crate::peerings::keep;
@@ -53,7 +53,7 @@ pub fn import_sessions(alloc: Global, streams: &Streams) -> Result<Imported, Imp
     let heard = hear(alloc, streams.peers.len(), &streams.flows)?;
     let opened = open_all(alloc, streams, heard.sessions)?;
     let home_as = home_as(alloc, &opened)?;
-    let home_id = first_home(&opened).map(|home| home.identifier);
+    let home_id = home_id(&opened);
     let mut steps = pack(alloc, &opened, home_as, heard.said)?;
     let kept = keep(alloc, streams, opened, home_as, &mut steps)?;
     Ok(Imported {

@@ -1,7 +1,7 @@
 //! The steps in which remotes say what is behind their openings.
 
-ghost use Rattle.std.specs.Prelude.{◌≡◌, ◌≤◌, ◌++◌, ◌∷◌, [], List, length, filter, map, None, IfOk, OnOk};
-ghost use Rattle.std.specs.List.{All, last_or};
+ghost use Rattle.std.specs.Prelude.{◌≡◌, ◌≤◌, ◌-◌, ◌++◌, ◌∷◌, [], List, length, filter, map, slice_get, IfOk, OnOk};
+ghost use Rattle.std.specs.List.{All};
 ghost use Rattle.imported_sessions.specs.Opened.{is_external_in};
 ghost use Rattle.imported_sessions.specs.Packed.{has_room as has_room_lem};
 ghost use Rattle.imported_sessions.specs.declared.imported.Said.{Said as SaidValue};
@@ -15,7 +15,7 @@ use std::alloc::Global;
 
 /// Whether a message belongs into the last step: it is of the same remote, and there is room.
 fn has_room(steps: &[Said], message: &Said) -> bool
-    ensures { result ≡ has_room_lem (last_or None steps.now) message.now }
+    ensures { result ≡ has_room_lem (slice_get steps.now (length steps.now - 1)) message.now }
 {
     match steps.last() {
         Some(last) => {
@@ -60,9 +60,10 @@ pub(crate) fn pack(
 {
     let mut steps = Vec::new(alloc);
     for message in said.into_vec() {
-        if is_external(opened, home_as, message.peer) {
-            push_message(&mut steps, message)?;
+        if !is_external(opened, home_as, message.peer) {
+            continue;
         }
+        push_message(&mut steps, message)?;
     }
     Ok(steps)
 }

@@ -1,4 +1,4 @@
-use Rattle.std.proofs.Common.{◌≡◌, ◌+◌, ◌++◌, ◌∷◌, [], map, sym, ap, ◌∙◌, arith}
+use Rattle.std.proofs.Common.{◌≡◌, ◌+◌, ◌++◌, ◌∷◌, [], List, map, sym, ap, ◌∙◌, arith}
 use Rattle.std.specs.List.{range_with_len}
 use Rattle.std.proofs.lemmas.List.FromFn.{map-range_with_len_more}
 use Rattle.imported_sessions.specs.declared.heard.Session.{Session}
@@ -19,6 +19,6 @@ loop-peer-preserved c =
     } in
     let none = none_read k c.new.result c.new-in-loop-peer.result c.new-in-loop-peer-2.result c.new.ensures c.new-in-loop-peer.ensures
     c.new-in-loop-peer-2.ensures in
-    c.in_ok-push.ensures.items ∙ ap (λ sessions. sessions ++ new ∷ []) c.loop-peer.invariant
+    c.in_ok-push.ensures.items ∙ ap (λ (sessions : List Session). sessions ++ new ∷ []) c.loop-peer.invariant
     ∙ ap (λ session. map (session_at []) (range_with_len 0 k) ++ session ∷ []) none
     ∙ sym (map-range_with_len_more (session_at []) 0 k k index)

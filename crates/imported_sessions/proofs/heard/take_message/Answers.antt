@@ -1,9 +1,9 @@
 use Rattle.std.proofs.Common.{◌≡◌, [], ◌++◌, ℕ, length, sym, ap, ◌∙◌, subst, rules, arith}
-use Rattle.imported_sessions.specs.declared.heard.Opening.{Opening}
 use Rattle.imported_sessions.specs.declared.heard.Stage.TheVariants.{Whole}
 use Rattle.imported_sessions.proofs.Behind.{Takes, takes_first, takes_joined, takes_apart, takes_later, opening_from}
 use Rattle.imported_sessions.proofs.heard.take_message.Goals as goal
-use Rattle.imported_sessions.proofs.heard.take_message.Goals.{then-kind-ne-KEEPALIVE-via-then-kind-ne-KEEPALIVE, then-kind-ne-KEEPALIVE-via-else-kind-ne-KEEPALIVE+then-saturating_add-gt-MOST}
+use Rattle.imported_sessions.proofs.heard.take_message.Goals.{then-kind-ne-KEEPALIVE-via-then-kind-ne-KEEPALIVE}
+use Rattle.imported_sessions.proofs.heard.take_message.Goals.{then-kind-ne-KEEPALIVE-via-else-kind-ne-KEEPALIVE+then-saturating_add-gt-MOST}
 
 pub returns-in-Nothing : goal.returns-in-Nothing
 returns-in-Nothing c = λ all is kind. takes_first c.args.message all c.args.opening.now is c.in-Nothing.is
