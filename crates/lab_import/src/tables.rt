@@ -2,8 +2,8 @@
 
 ghost use Rattle.std.specs.Prelude.{◌≡◌, ◌++◌, IfOk, OnOk, string_bytes};
 ghost use Rattle.std.specs.List.{flat_map};
-ghost use Rattle.lab_import.specs.Texts.{first_id as first_id_lem, second_id as second_id_lem, router_table, peering_names, peering_addresses, peering_opens, peering_table};
-ghost use Rattle.lab_import.specs.Texts.{graft_text, left_out_text, head_text, tail_text};
+ghost use Rattle.lab_import.specs.Texts.{first_id as first_id_lem, second_id as second_id_lem, head_text, tail_text, left_out_text, graft_text};
+ghost use Rattle.lab_import.specs.Texts.{router_table, peering_names, peering_addresses, peering_opens, peering_table};
 
 use crate::keys::{
     push_address, push_flag, push_number, push_octets, push_peering_name, push_text,
@@ -56,7 +56,8 @@ fn push_peering_names(text: &mut String, peering: &ImportedPeering) -> Result<()
     text.push_str("[[peering]]\n")?;
     push_peering_name(text, "name", peering.peer)?;
     push_text(text, "at", "r1")?;
-    push_number(text, "remote_as", u64::from(peering.remote_as))
+    push_number(text, "remote_as", u64::from(peering.remote_as))?;
+    Ok(())
 }
 
 /// Adds the addresses of a peering and the remote's identifier.

@@ -12,5 +12,5 @@ returns-in-Ok c =
 pub returns-in-Err-Bad : goal.returns-in-Err-Bad
 returns-in-Err-Bad c =
     let answer = input_of c.args.text.now in
-    let is : answer ≡ Err c.in-Err-Bad.bad = subst (λ stop. ReaderAnswers answer (Err stop)) c.in-Err-Bad.field-0-is c.in-Err-Bad.ensures in
-    not_read answer c.in-Err-Bad.bad (input_of_import c.args.imported.now) is
+    let is : answer ≡ Err c.in-Err-Bad.field-0-0 = subst (λ stop. ReaderAnswers answer (Err stop)) c.in-Err-Bad.field-0-is c.in-Err-Bad.ensures in
+    not_read answer c.in-Err-Bad.field-0-0 (input_of_import c.args.imported.now) is
