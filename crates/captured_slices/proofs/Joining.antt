@@ -1,12 +1,12 @@
 -- Slices of a stream are joined to the stream.
-use Rattle.std.proofs.Common.{◌≡◌, ◌≢◌, ℕ, zero, suc, ◌+◌, ◌^◌, ◌<◌, ◌≤◌, ◌⊎◌, inl, inr, eqb, Bool, true, false, List, [], ◌∷◌, ◌++◌, length, take}
+use Rattle.std.proofs.Common.{◌≡◌, ℕ, zero, suc, ◌^◌, ◌<◌, ◌≤◌, ◌⊎◌, inl, inr, Bool, true, false, List, [], ◌∷◌, ◌++◌, length, take}
 use Rattle.std.proofs.Common.{Option, Some, None, Result, Ok, Err, set, get_or, refl, sym, ap, ◌∙◌, subst, arith}
 use Rattle.std.specs.Prelude.{◌&&◌, ◌==◌, nat_le, if◌then◌else◌, option_map}
 use Rattle.std.specs.List.{AllByRecursion, cons_option, flat_map, position}
 use Rattle.std.specs.List.{slice_get}
 use Rattle.std.specs.Option.{option_and_then}
 use Rattle.std.proofs.Math.ListN.{length-set}
-use Rattle.std.proofs.lemmas.Bool.{cases_eq, eq-eqb, false≢true}
+use Rattle.std.proofs.lemmas.Bool.{cases_eq, eq-eqb}
 use Rattle.std.proofs.lemmas.Bool.Decides.{Decides-eqb}
 use Rattle.std.proofs.lemmas.List.{append_assoc, append-nil, length-map}
 use Rattle.std.proofs.lemmas.Option.{none-some, slice_get-get_or, slice_get_within, slice_get-map}
@@ -97,10 +97,10 @@ home_away e = cc
 -- ---- pieces
 
 -- of the same connection and way
-abbrev IsLike : Directed → Directed → Type 0
+abbrev pub IsLike : Directed → Directed → Type 0
 IsLike s d = (d.peer ≡ s.peer) × (d.way ≡ s.way)
 
-like_pieces : (n : ℕ) (s : Directed) → AllByRecursion (IsLike s) (pieces n s)
+pub like_pieces : (n : ℕ) (s : Directed) → AllByRecursion (IsLike s) (pieces n s)
 like_pieces zero s = ((refl, refl), tt)
 like_pieces (suc n) s = elim (nat_le (length s.segment.octets) 4096)
     as (λ (b : Bool). AllByRecursion (IsLike s) (if b then s ∷ [] else front s ∷ pieces n (behind s))) [
@@ -110,22 +110,22 @@ like_pieces (suc n) s = elim (nat_le (length s.segment.octets) 4096)
 
 -- ---- what a packet has
 
-abbrev directed_as : Way → Segment → Directed
+abbrev pub directed_as : Way → Segment → Directed
 directed_as way s = record { peer = peer_of way s; way = way; segment = s }
 
 -- a segment of a connection
-record HasSegment (peer : Peer) (found : List Directed) (sent : Option Segment) : Type 0 where
-  s : Segment
-  way : Way
-  found_is : found ≡ directed_as way s ∷ []
-  sent_is : sent ≡ (if is_home way && same_peer (peer_of Home s) peer then Some s else None)
+pub record HasSegment (peer : Peer) (found : List Directed) (sent : Option Segment) : Type 0 where
+  pub s : Segment
+  pub way : Way
+  pub found_is : found ≡ directed_as way s ∷ []
+  pub sent_is : sent ≡ (if is_home way && same_peer (peer_of Home s) peer then Some s else None)
 
 -- or none
-record HasNone (found : List Directed) (sent : Option Segment) : Type 0 where
-  found_is : found ≡ []
-  sent_is : sent ≡ None
+pub record HasNone (found : List Directed) (sent : Option Segment) : Type 0 where
+  pub found_is : found ≡ []
+  pub sent_is : sent ≡ None
 
-abbrev HasOrNone : Peer → List Directed → Option Segment → Type 0
+abbrev pub HasOrNone : Peer → List Directed → Option Segment → Type 0
 HasOrNone peer found sent = HasNone found sent ⊎ HasSegment peer found sent
 
 segment_or_none : (peer : Peer) (s : Segment) (bgp : Bool) (goes : Option Way) → HasOrNone peer (if bgp then directed_on goes s else [])
@@ -134,7 +134,7 @@ segment_or_none peer s false goes = inl (record { found_is = refl; sent_is = ref
 segment_or_none peer s true None = inl (record { found_is = refl; sent_is = refl })
 segment_or_none peer s true (Some way) = inr (record { s = s; way = way; found_is = refl; sent_is = refl })
 
-has_or_none : (home : Option ℕ) (peer : Peer) (r : Result Segment LeftOut) → HasOrNone peer (directed_in home r) (sent_in home peer r)
+pub has_or_none : (home : Option ℕ) (peer : Peer) (r : Result Segment LeftOut) → HasOrNone peer (directed_in home r) (sent_in home peer r)
 has_or_none home peer (Err left) = inl (record { found_is = refl; sent_is = refl })
 has_or_none home peer (Ok s) = segment_or_none peer s (is_bgp s) (way_of home s)
 

@@ -1,5 +1,5 @@
-mod Types
+pub mod Types
 mod Slicing
 mod Remaining
 mod Distinct
-mod Joining
+pub mod Joining
