@@ -90,8 +90,9 @@ head_text i =
 
 unfoldable pub tail_text : Imported → List ℕ
 tail_text i =
-    line (line (codes "# Without the signs in front of it, each of these steps moves a session to the other router."))
-    ++ flat_map graft_text i.peerings ++ line (codes "[[step]]") ++ text_key (codes "do") (codes "settle")
+    line (codes "[[step]]") ++ line (text_key (codes "do") (codes "settle"))
+    ++ line (line (codes "# Without the signs in front of it, each of these steps moves a session to the other router."))
+    ++ flat_map graft_text i.peerings
 
 abbrev pub steps_text : List Said → List ℕ
 steps_text steps = flat_map step_text steps

@@ -1,6 +1,7 @@
 //! A capture and its laboratory.
 
-ghost use Rattle.std.specs.Prelude.{◌≡◌, Err, IfOk};
+ghost use Rattle.std.specs.Prelude.{◌≡◌, ◌<◌, length, slice_get, Some, Err, IfOk};
+ghost use Rattle.captured_streams.specs.declared.directed.Peer.{Peer as PeerValue};
 ghost use Rattle.lab_import.specs.declared.capture.CaptureFault.{CaptureFault as FaultValue};
 ghost use Rattle.lab_import.specs.declared.capture.Unimported.TheVariants as stops;
 ghost use Rattle.lab_import.specs.declared.capture.CaptureFault.TheVariants as faults;
@@ -9,7 +10,7 @@ ghost use Rattle.lab_import.specs.Captures.{fault_line as fault_line_lem, remote
 use crate::limits::TextStop;
 use crate::text::{is_read, lab_text};
 use bgp_types::Address;
-use captured_streams::{Hole, StreamStop, Streams, captured_streams};
+use captured_streams::{Hole, Peer, StreamStop, Streams, captured_streams};
 use graft_edge::{Items, NoMemory, Octets};
 use imported_sessions::{ImportStop, import_sessions};
 use pcap_form::{CaptureStop, read_capture};
@@ -77,6 +78,14 @@ fn read_streams(alloc: Global, home: Option<u32>, file: &[u8]) -> Result<Streams
     }
 }
 
+/// Returns the remote of the connection with this number.
+fn remote_of(peers: &[Peer], number: usize) -> Socket
+    requires { number < length peers.now }
+    ensures { (peer : PeerValue) × (slice_get peers.now number ≡ Some peer) × (result ≡ peer.remote) }
+{
+    peers[number].remote
+}
+
 /// Imports a capture, pcap or pcapng: the text of a laboratory with its sessions of BGP over TCP and IPv4, in which each remote says just the octets that
 /// it says in the capture. `home` is the address of the home side; without it that is the end with port 179 (RFC 4271, section
 /// 4.2). The text is always one that `read_lab` accepts. A file that is no capture is refused first, then a hole in what a
@@ -96,7 +105,7 @@ pub fn import_capture(alloc: Global, home: Option<u32>, file: &[u8]) -> Result<O
     let text = match lab_text(alloc, &imported) {
         Ok(text) => text,
         Err(TextStop::Beyond(beyond)) => {
-            let remote = streams.peers[beyond.peer].remote;
+            let remote = remote_of(&streams.peers, beyond.peer);
             return Err(Unimported::Fault(CaptureFault::Limit(remote, beyond.octet)));
         }
         Err(TextStop::NoMemory) => return Err(Unimported::NoMemory),

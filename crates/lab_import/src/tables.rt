@@ -165,17 +165,19 @@ fn push_grafts(text: &mut String, peerings: &[ImportedPeering]) -> Result<(), No
     Ok(())
 }
 
-/// Returns what stands behind the steps: the grafts as comments, and a settle.
+/// Returns what stands behind the raw steps: a settle, and the grafts as comments. A graft in the group of the raw steps would find
+/// no established session.
 #[tactic(auto, unfolding(crate::specs::Texts::tail_text))]
 pub(crate) fn tail_of(alloc: Global, imported: &Imported) -> Result<String, NoMemory>
     ensures { IfOk result (λ text. string_bytes text ≡ tail_text imported.now) }
 {
     let mut text = String::new(alloc);
+    text.push_str("[[step]]\n")?;
+    push_text(&mut text, "do", "settle")?;
+    text.push_str("\n")?;
     text.push_str(
         "# Without the signs in front of it, each of these steps moves a session to the other router.\n\n",
     )?;
     push_grafts(&mut text, &imported.peerings)?;
-    text.push_str("[[step]]\n")?;
-    push_text(&mut text, "do", "settle")?;
     Ok(text)
 }

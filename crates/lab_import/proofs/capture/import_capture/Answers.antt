@@ -1,4 +1,4 @@
-use Rattle.std.proofs.Common.{◌≡◌, ℕ, ◌<◌, true, false, List, length, Some, refl, sym, ap, ◌∙◌, subst, arith}
+use Rattle.std.proofs.Common.{◌≡◌, ℕ, ◌<◌, List, length, Some, refl, sym, ap, ◌∙◌, subst}
 use Rattle.std.specs.Prelude.{Err}
 use Rattle.std.specs.List.{slice_get}
 use Rattle.std.proofs.lemmas.Bool.Decides.{when_true, when_false}
@@ -8,11 +8,10 @@ use Rattle.imported_sessions.specs.declared.imported.Imported.{Imported}
 use Rattle.lab_input.specs.Labs.{InputOf}
 use Rattle.lab_import.specs.Texts.{text_of}
 use Rattle.lab_import.specs.Inputs.{input_of_import}
-use Rattle.lab_import.specs.Captures.{HasImport, IsFault}
+use Rattle.lab_import.specs.Captures.{IsFault}
 use Rattle.lab_import.specs.declared.limits.Beyond.{Beyond}
 use Rattle.lab_import.specs.declared.capture.CaptureFault.TheVariants.{Limit, NoOpen, Unread}
 use Rattle.lab_import.proofs.Peers.{beyond_below}
-use Rattle.lab_import.proofs.StepsSoFar.{item_at}
 use Rattle.lab_import.proofs.capture.import_capture.Goals as goal
 
 pub returns-in-Err-NoOpen-clause-fault : goal.returns-in-Err-NoOpen-clause-fault
@@ -22,33 +21,27 @@ returns-in-Err-NoOpen-clause-fault c = λ fault e.
     subst (IsFault c.args.home c.args.file.now) same
     (c.in_ok-streams.streams, c.in_ok-streams.ensures.streams, c.in-Err-NoOpen.ensures.stop remote (ap Err c.in-Err-NoOpen.field-0-is))
 
-pub index-requires : goal.index-requires
-index-requires c =
+pub remote_of-remote-requires : goal.remote_of-remote-requires
+remote_of-remote-requires c =
     let s : Streams = c.in_ok-streams.streams in
     let beyond : Beyond = c.in-Err-Beyond.beyond in
     let is = c.in-Err-Beyond.ensures.beyond beyond (ap Err c.in-Err-Beyond.field-0-is) in
-    let below : beyond.peer < length s.peers = beyond_below s c.in-Ok.imported beyond c.in-Ok.ensures.import is in
-    omega (arith, below, ap (λ (ps : List Peer). length ps) c.deref.ensures)
+    subst (λ (ps : List Peer). beyond.peer < length ps) (sym c.deref.ensures) (beyond_below s c.in-Ok.imported beyond c.in-Ok.ensures.import is)
 
 pub returns-in-Err-Beyond-clause-fault : goal.returns-in-Err-Beyond-clause-fault
 returns-in-Err-Beyond-clause-fault c = λ fault e.
-    let s : Streams = c.in_ok-streams.streams in
-    let i : Imported = c.in-Ok.imported in
     let beyond : Beyond = c.in-Err-Beyond.beyond in
-    let is = c.in-Err-Beyond.ensures.beyond beyond (ap Err c.in-Err-Beyond.field-0-is) in
-    let below : beyond.peer < length s.peers = beyond_below s i beyond c.in-Ok.ensures.import is in
-    let peer : Peer = c.index.result in
-    let same : Limit peer.remote beyond.octet ≡ fault = cc (e) in
+    let there = c.remote_of-remote.ensures in
+    let same : Limit c.remote_of-remote.result beyond.octet ≡ fault = cc (e) in
     subst (IsFault c.args.home c.args.file.now) same (record {
-      s = s;
-      i = i;
+      s = c.in_ok-streams.streams;
+      i = c.in-Ok.imported;
       has = record { streams = c.in_ok-streams.ensures.streams; imported = c.in-Ok.ensures.import };
       beyond = beyond;
-      is = is;
-      peer = peer;
-      at = item_at s.peers c.deref.result.now beyond.peer peer c.deref.ensures
-          (omega (arith, below, ap (λ (ps : List Peer). length ps) c.deref.ensures)) c.index.is;
-      remote_is = refl;
+      is = c.in-Err-Beyond.ensures.beyond beyond (ap Err c.in-Err-Beyond.field-0-is);
+      peer = there.0;
+      at = subst (λ (ps : List Peer). slice_get ps beyond.peer ≡ Some there.0) c.deref.ensures there.1;
+      remote_is = there.2;
       octet_is = refl;
     })
 
@@ -56,9 +49,9 @@ pub returns-then-not-branch-clause-fault : goal.returns-then-not-branch-clause-f
 returns-then-not-branch-clause-fault c = λ fault e.
     let i : Imported = c.in-Ok.imported in
     let text = c.in-Ok-lab_text.text in
-    let text_is : c.deref.result.now ≡ text_of i = c.deref.ensures ∙ c.in-Ok-lab_text.ensures.text in
-    let other : ¬ InputOf c.deref.result.now (input_of_import i)
-    = when_false (InputOf c.deref.result.now (input_of_import i)) (¬ InputOf c.deref.result.now (input_of_import i)) c.if-not-branch.true
+    let text_is : c.deref-2.result.now ≡ text_of i = c.deref-2.ensures ∙ c.in-Ok-lab_text.ensures.text in
+    let other : ¬ InputOf c.deref-2.result.now (input_of_import i)
+    = when_false (InputOf c.deref-2.result.now (input_of_import i)) (¬ InputOf c.deref-2.result.now (input_of_import i)) c.if-not-branch.true
     c.in_ok-is_read.ensures in
     let same : Unread ≡ fault = cc (e) in
     subst (IsFault c.args.home c.args.file.now) same (record {
@@ -73,8 +66,8 @@ pub returns-clause-imported : goal.returns-clause-imported
 returns-clause-imported c =
     let i : Imported = c.in-Ok.imported in
     let text = c.in-Ok-lab_text.text in
-    let reads : InputOf c.deref.result.now (input_of_import i)
-    = when_true (InputOf c.deref.result.now (input_of_import i)) (¬ InputOf c.deref.result.now (input_of_import i)) c.if-not-branch.false
+    let reads : InputOf c.deref-2.result.now (input_of_import i)
+    = when_true (InputOf c.deref-2.result.now (input_of_import i)) (¬ InputOf c.deref-2.result.now (input_of_import i)) c.if-not-branch.false
     c.in_ok-is_read.ensures in
     record {
       s = c.in_ok-streams.streams;
@@ -84,6 +77,6 @@ returns-clause-imported c =
       text_is = record {
         fits = c.in-Ok-lab_text.ensures.fits;
         text_is = c.in-Ok-lab_text.ensures.text;
-        reads = subst (λ (t : List ℕ). InputOf t (input_of_import i)) c.deref.ensures reads;
+        reads = subst (λ (t : List ℕ). InputOf t (input_of_import i)) c.deref-2.ensures reads;
       };
     }
