@@ -26,13 +26,17 @@ remote_of-remote-requires c =
     let s : Streams = c.in_ok-streams.streams in
     let beyond : Beyond = c.in-Err-Beyond.beyond in
     let is = c.in-Err-Beyond.ensures.beyond beyond (ap Err c.in-Err-Beyond.field-0-is) in
-    subst (λ (ps : List Peer). beyond.peer < length ps) (sym c.deref.ensures) (beyond_below s c.in-Ok.imported beyond c.in-Ok.ensures.import is)
+    let below : beyond.peer < length c.deref.result.now
+    = subst (λ (ps : List Peer). beyond.peer < length ps) (sym c.deref.ensures) (beyond_below s c.in-Ok.imported beyond c.in-Ok.ensures.import is) in
+    subst (λ (b : Beyond). b.peer < length c.deref.result.now) (sym c.in-Err-Beyond.beyond-is) below
 
 pub returns-in-Err-Beyond-clause-fault : goal.returns-in-Err-Beyond-clause-fault
 returns-in-Err-Beyond-clause-fault c = λ fault e.
     let beyond : Beyond = c.in-Err-Beyond.beyond in
     let there = c.remote_of-remote.ensures in
-    let same : Limit c.remote_of-remote.result beyond.octet ≡ fault = cc (e) in
+    let at : slice_get c.deref.result.now beyond.peer ≡ Some there.0
+    = subst (λ (b : Beyond). slice_get c.deref.result.now b.peer ≡ Some there.0) c.in-Err-Beyond.beyond-is there.1 in
+    let same : Limit c.remote_of-remote.result beyond.octet ≡ fault = cc (e, ap (λ (b : Beyond). b.octet) c.in-Err-Beyond.beyond-is) in
     subst (IsFault c.args.home c.args.file.now) same (record {
       s = c.in_ok-streams.streams;
       i = c.in-Ok.imported;
@@ -40,7 +44,7 @@ returns-in-Err-Beyond-clause-fault c = λ fault e.
       beyond = beyond;
       is = c.in-Err-Beyond.ensures.beyond beyond (ap Err c.in-Err-Beyond.field-0-is);
       peer = there.0;
-      at = subst (λ (ps : List Peer). slice_get ps beyond.peer ≡ Some there.0) c.deref.ensures there.1;
+      at = subst (λ (ps : List Peer). slice_get ps beyond.peer ≡ Some there.0) c.deref.ensures at;
       remote_is = there.2;
       octet_is = refl;
     })
