@@ -8,8 +8,8 @@ pub returns-in-Err-TooLong : goal.returns-in-Err-TooLong
 returns-in-Err-TooLong g c =
     long_imported c.args.home _ _ c.end_refused.result (c.in-Err-TooLong.ensures.too_long (ap Err c.in-Err-TooLong.field-0-is)) c.end_refused.ensures
 
-pub returns-in-Ok : goal.returns-in-Ok
-returns-in-Ok g c =
+pub returns-in-Ok-import_capture : goal.returns-in-Ok
+returns-in-Ok-import_capture g c =
     let read = c.in-Ok.ensures in
     let is = subst (λ octets. IsImported c.args.home octets c.in-Ok-import_capture.text) c.deref.ensures c.in-Ok-import_capture.ensures.imported in
     imported_ends c.args.home _ _ c.in-Ok.file c.in-Ok-import_capture.text _ _ read.whole read.end.0 read.end.1 is c.end_with.ensures.lab c.end_with.ensures.writes
