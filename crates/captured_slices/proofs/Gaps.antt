@@ -275,7 +275,8 @@ module _ (home : Option ℕ) (known : List Peer) (k : ℕ) (peer : Peer) (distin
   others_go s other (d ∷ ds) rest end like goes = (end, inr ((λ own. other d like.0 own.0 own.1), refl), others_go s other ds rest end like.1 goes)
 
   abbrev GoIf : (found : List Directed) → Option Segment → (rest : List Captured) → (end : ℕ) → Type 0
-  GoIf found sent rest end = GoOn first said end (cons_option sent (sent_by home peer rest)) → GoesOn end (flat_map in_pieces (found ++ whole_segments home rest))
+  GoIf found sent rest end =
+      GoOn first said end (cons_option sent (sent_by home peer rest)) → GoesOn end (flat_map in_pieces (found ++ whole_segments home rest))
 
   module _ (rest : List Captured) (behind : (end : ℕ) → GoOn first said end (sent_by home peer rest) → GoesOn end (directed home rest)) (s : Segment)
       (end : ℕ) where
