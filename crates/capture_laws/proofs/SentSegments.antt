@@ -283,7 +283,7 @@ empty_front e f g s rest emits sent =
 
 -- ---- along a run
 
-still_within : (e f : Endpoint) (o : Option PlacedSegment) → SendsOr e f o → e.emitted ≤ length e.stream → f.emitted ≤ length f.stream
+pub still_within : (e f : Endpoint) (o : Option PlacedSegment) → SendsOr e f o → e.emitted ≤ length e.stream → f.emitted ≤ length f.stream
 still_within e f None keeps fits =
     omega (arith, keeps.emitted, ap (λ (xs : List ℕ). length xs) keeps.stream, length-append e.stream keeps.more, fits)
 still_within e f (Some s) (inl slice) fits =

@@ -11,11 +11,12 @@ ghost use Rattle.node_configs.specs.Accepted.{IsAccepted};
 ghost use Rattle.pcap_form.specs.Blocks.{Captured};
 ghost use Rattle.pcap_form.specs.Captures.{IsCapture};
 ghost use Rattle.captured_streams.specs.declared.streams.Streams.{Streams};
-ghost use Rattle.captured_streams.specs.Readings.{IsReading};
+ghost use Rattle.captured_streams.specs.declared.stop.Hole.{Hole};
+ghost use Rattle.captured_streams.specs.Readings.{IsReading, IsHole};
 ghost use Rattle.lab_capture.specs.Captures.{IsLabCapture};
 ghost use Rattle.capture_laws.specs.Remotes.{AreOfRemotes};
 
-use captured_slices::slices_are_joined;
+use captured_slices::{no_gap_leaves_no_hole, slices_are_joined};
 use pcap_form::{a_file_is_read_in_one_way, what_is_written_reads_back};
 use tcp_packets::what_is_written_is_read;
 
@@ -31,4 +32,17 @@ pub fn captures_say_what_remotes_say()
     what_is_written_reads_back();
     a_file_is_read_in_one_way();
     slices_are_joined();
+}
+
+/// The capture of a run has no hole: its sessions can be read.
+pub fn captures_have_no_hole()
+    ensures { (lab : Lab) (octets : List ℕ) (packets : List Captured) (hole : Hole) (events : List Event) (w : World)
+        → IsAccepted lab.input → IsLabCapture lab octets → IsCapture octets packets
+        → Run (setup_of lab.input) (first_world (setup_of lab.input)) events w → AreEntriesOf (setup_of lab.input) events lab.journal
+        → ¬ IsHole None packets hole }
+{
+    what_is_written_is_read();
+    what_is_written_reads_back();
+    a_file_is_read_in_one_way();
+    no_gap_leaves_no_hole();
 }

@@ -3,4 +3,4 @@
 
 mod laws;
 
-pub use laws::captures_say_what_remotes_say;
+pub use laws::{captures_have_no_hole, captures_say_what_remotes_say};

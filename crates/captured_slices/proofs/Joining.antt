@@ -46,11 +46,11 @@ get-set_other (x ∷ xs) zero (suc n) y ne = refl
 get-set_other (x ∷ xs) (suc k) zero y ne = refl
 get-set_other (x ∷ xs) (suc k) (suc n) y ne = get-set_other xs k n y (λ e. ne (ap suc e))
 
-abbrev neither : Both
+abbrev pub neither : Both
 neither = record { to_home = None; to_remote = None }
 
 -- the stream that is replaced
-set_here : (all : List Both) (k : ℕ) (after : Stream) → k < length all → stream_of (set_stream all k Home after) k Home ≡ Some after
+pub set_here : (all : List Both) (k : ℕ) (after : Stream) → k < length all → stream_of (set_stream all k Home after) k Home ≡ Some after
 set_here all k after below = ap (option_and_then (one_way Home)) (get-set_here all k (with_stream Home after (get_or all k neither)) below)
 
 -- the others stay
@@ -67,7 +67,7 @@ set_remote all n k below after = elim (cases_eq n k) [
       ∙ sym (ap (option_and_then (one_way Home)) (slice_get-get_or all n neither below)))
 ]
 
-set_away : (all : List Both) (n k : ℕ) (way : Way) → n < length all → (after : Stream) → (way ≡ Home → n ≡ k → ⊥)
+pub set_away : (all : List Both) (n k : ℕ) (way : Way) → n < length all → (after : Stream) → (way ≡ Home → n ≡ k → ⊥)
     → stream_of (set_stream all n way after) k Home ≡ stream_of all k Home
 set_away all n k Home below after away = set_elsewhere all n k Home after (away refl)
 set_away all n k Remote below after away = set_remote all n k below after
@@ -91,7 +91,7 @@ flow_away : (n k : ℕ) (way : Way) (octets : List ℕ) (more : List Flow) → (
 flow_away n k Home octets more away = flow_elsewhere n k octets more (away refl)
 flow_away n k Remote octets more away = refl
 
-home_away : Home ≡ Remote → ⊥
+pub home_away : Home ≡ Remote → ⊥
 home_away e = cc
 
 -- ---- pieces
@@ -138,6 +138,26 @@ pub has_or_none : (home : Option ℕ) (peer : Peer) (r : Result Segment LeftOut)
 has_or_none home peer (Err left) = inl (record { found_is = refl; sent_is = refl })
 has_or_none home peer (Ok s) = segment_or_none peer s (is_bgp s) (way_of home s)
 
+-- ---- whose segment it is
+
+module _ (known : List Peer) (k : ℕ) (peer : Peer) (distinct : AreDistinct known) (there : slice_get known k ≡ Some peer) where
+  -- a segment of another number isn't of this connection
+  pub not_own : (s : Segment) (n : ℕ) → peer_at known (directed_as Home s) ≡ Some n → (n ≡ k → ⊥) → same_peer (peer_of Home s) peer ≡ false
+  not_own s n at ne = elim (same_peer (peer_of Home s) peer) as (λ (b : Bool). same_peer (peer_of Home s) peer ≡ b → b ≡ false) [
+    | false ↦ λ e. refl
+    | true ↦ λ e.
+        let f = position_found (same_peer (peer_of Home s)) known n at in
+        let is : peer_of Home s ≡ f.0 = peers_same (peer_of Home s) f.0 f.2 in
+        let own : peer_of Home s ≡ peer = peers_same (peer_of Home s) peer e in
+        absurd (ne (distinct.same n k f.0 peer f.1 there (ap (λ (p : Peer). p.remote.address) (sym is ∙ own))))
+  ] refl
+
+  pub own_is : (s : Segment) → peer_at known (directed_as Home s) ≡ Some k → same_peer (peer_of Home s) peer ≡ true
+  own_is s at =
+      let f = position_found (same_peer (peer_of Home s)) known k at in
+      let same : f.0 ≡ peer = cc (f.1, there) in
+      ap (same_peer (peer_of Home s)) (sym same) ∙ f.2
+
 -- ---- all packets
 
 module _ (home : Option ℕ) (known : List Peer) (k : ℕ) (peer : Peer) (distinct : AreDistinct known) (there : slice_get known k ≡ Some peer) (first : ℕ)
@@ -148,23 +168,6 @@ module _ (home : Option ℕ) (known : List Peer) (k : ℕ) (peer : Peer) (distin
   Joins packets all flows =
       (done : List ℕ) → length all ≡ length known → Remains first said reach (sent_by home peer packets) (stream_of all k Home) done
       → done ++ stream Home k flows ≡ take reach said
-
-  -- a segment of another number isn't of this connection
-  not_own : (s : Segment) (n : ℕ) → peer_at known (directed_as Home s) ≡ Some n → (n ≡ k → ⊥) → same_peer (peer_of Home s) peer ≡ false
-  not_own s n at ne = elim (same_peer (peer_of Home s) peer) as (λ (b : Bool). same_peer (peer_of Home s) peer ≡ b → b ≡ false) [
-    | false ↦ λ e. refl
-    | true ↦ λ e.
-        let f = position_found (same_peer (peer_of Home s)) known n at in
-        let is : peer_of Home s ≡ f.0 = peers_same (peer_of Home s) f.0 f.2 in
-        let own : peer_of Home s ≡ peer = peers_same (peer_of Home s) peer e in
-        absurd (ne (distinct.same n k f.0 peer f.1 there (ap (λ (p : Peer). p.remote.address) (sym is ∙ own))))
-  ] refl
-
-  own_is : (s : Segment) → peer_at known (directed_as Home s) ≡ Some k → same_peer (peer_of Home s) peer ≡ true
-  own_is s at =
-      let f = position_found (same_peer (peer_of Home s)) known k at in
-      let same : f.0 ≡ peer = cc (f.1, there) in
-      ap (same_peer (peer_of Home s)) (sym same) ∙ f.2
 
   module _ (rest : List Captured)
       (next_ones : (all : List Both) (flows : List Flow) → AreFlows known all (directed home rest) flows end → Joins rest all flows) where
@@ -265,10 +268,10 @@ module _ (home : Option ℕ) (known : List Peer) (k : ℕ) (peer : Peer) (distin
       on_home None at are remains =
           on_unlike (λ is. none-some k (sym at ∙ is)) are (subst RemainsIf (position_none (same_peer (peer_of Home s)) known at k peer there) remains)
       on_home (Some n) at are remains = elim (cases_eq n k) [
-        | inr ne ↦ on_unlike (λ is. ne (let same : n ≡ k = cc (at, is) in same)) are (subst RemainsIf (not_own s n at ne) remains)
+        | inr ne ↦ on_unlike (λ is. ne (let same : n ≡ k = cc (at, is) in same)) are (subst RemainsIf (not_own known k peer distinct there s n at ne) remains)
         | inl same ↦
             let own = subst (λ (j : ℕ). peer_at known (directed_as Home s) ≡ Some j) same at in
-            on_same own are (subst RemainsIf (own_is s own) remains)
+            on_same own are (subst RemainsIf (own_is known k peer distinct there s own) remains)
       ]
 
       on_segment : (way : Way) → Brought way → RemainsIf (is_home way && same_peer (peer_of Home s) peer) → done ++ stream Home k flows ≡ take reach said
@@ -294,7 +297,7 @@ module _ (home : Option ℕ) (known : List Peer) (k : ℕ) (peer : Peer) (distin
 
 -- ---- from the beginning
 
-none_yet : (known : List Peer) (k : ℕ) → stream_of (none_begun known) k Home ≡ None
+pub none_yet : (known : List Peer) (k : ℕ) → stream_of (none_begun known) k Home ≡ None
 none_yet known k =
     ap (option_and_then (one_way Home)) (slice_get-map (λ (peer : Peer). neither) known k)
     ∙ elim (slice_get known k) as (λ (o : Option Peer). option_and_then (one_way Home) (option_map (λ (peer : Peer). neither) o) ≡ None) [

@@ -3,3 +3,4 @@ mod Slicing
 mod Remaining
 mod Distinct
 pub mod Joining
+mod Gaps

@@ -66,10 +66,10 @@ nothing_said opens [] e = refl
 nothing_said true (x ∷ xs) e = absurd (false≢true (sym e))
 nothing_said false (x ∷ xs) e = absurd (not_nothing (length xs) e)
 
-abbrev fresh : Segment → Stream
+abbrev pub fresh : Segment → Stream
 fresh s = record { given = 0; rest = nothing_from s.first }
 
-abbrev begun_if : Bool → Segment → Option Stream
+abbrev pub begun_if : Bool → Segment → Option Stream
 begun_if b s = if b then Some (fresh s) else None
 
 -- a segment with which its stream hasn't begun yet has no octets
@@ -80,7 +80,7 @@ not_begun None s none = elim (begins s) as (λ (b : Bool). begins s ≡ b → be
   | false ↦ λ e at. nothing_said s.opens s.octets e
 ] refl none
 
-begin_of : (first : ℕ) (said : List ℕ) (reach : ℕ) (s : Segment) → first < 2 ^ 32 → s.first ≡ first → IsOfStream first said reach (fresh s)
+pub begin_of : (first : ℕ) (said : List ℕ) (reach : ℕ) (s : Segment) → first < 2 ^ 32 → s.first ≡ first → IsOfStream first said reach (fresh s)
 begin_of first said reach s fits starts = record {
   given = omega arith;
   next = starts ∙ (let e : first ≡ number first 0 = omega (arith, fits) in e);
@@ -110,7 +110,7 @@ has_begun (Some stream) before s place at has =
     let same : stream ≡ before = cc at in
     subst (λ (st : Stream). Has st place) same has
 
-some_octets : (octets : List ℕ) → octets ≢ [] → 0 < length octets
+pub some_octets : (octets : List ℕ) → octets ≢ [] → 0 < length octets
 some_octets [] some = absurd (some refl)
 some_octets (x ∷ xs) some = omega arith
 

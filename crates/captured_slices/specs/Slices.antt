@@ -1,5 +1,5 @@
 -- What a remote sends on a connection, and when its segments are slices of what it says.
-use Rattle.std.specs.Prelude.{ℕ, ◌≡◌, ◌≢◌, ◌≤◌, ◌<◌, ◌+◌, ◌^◌, ◌⊎◌, Bool, false, ◌&&◌, if◌then◌else◌, List, [], length, take, drop, filter_map}
+use Rattle.std.specs.Prelude.{ℕ, ◌≡◌, ◌≢◌, ◌≤◌, ◌<◌, ◌+◌, ◌^◌, ◌⊎◌, Bool, false, ◌&&◌, if◌then◌else◌, max, List, [], ◌∷◌, length, take, drop, filter_map}
 use Rattle.std.specs.Prelude.{Option, Some, None, slice_get, Result, Ok, Err}
 use Rattle.tcp_seq.specs.Numbers.{number}
 use Rattle.tcp_seq.specs.declared.segment.Way.{Way}
@@ -8,8 +8,8 @@ use Rattle.pcap_form.specs.Blocks.{Captured}
 use Rattle.tcp_packets.specs.declared.read.LeftOut.{LeftOut}
 use Rattle.tcp_packets.specs.Reading.{Segment, read_packet}
 use Rattle.captured_streams.specs.declared.directed.Peer.{Peer}
-use Rattle.captured_streams.specs.Directed.{is_bgp, way_of, peer_of}
-use Rattle.captured_streams.specs.Peers.{is_home, same_peer}
+use Rattle.captured_streams.specs.Directed.{is_bgp, way_of, peer_of, directed}
+use Rattle.captured_streams.specs.Peers.{is_home, same_peer, peers}
 
 -- ---- what a remote sends
 
@@ -50,3 +50,24 @@ pub record AreSlices (first : ℕ) (said : List ℕ) (reach : ℕ) (segments : L
       → ((m : ℕ) (other : Segment) → m < n → slice_get segments m ≡ Some other → other.octets ≡ []) → s.first ≡ first
   pub reached : (reach ≡ 0) ⊎ ((n : ℕ) × (s : Segment) × (offset : ℕ) × (slice_get segments n ≡ Some s) × IsSliceAt first said offset s
       × (s.octets ≢ []) × (reach ≡ offset + length s.octets))
+
+-- ---- without gaps
+
+-- Each segment is a slice that begins no later than where the ones before it end.
+abbrev pub GoOn : (first : ℕ) → (said : List ℕ) → (end : ℕ) → List Segment → Type 0
+GoOn first said end [] = Unit {0}
+GoOn first said end (s ∷ rest) =
+    (offset : ℕ) × IsSliceAt first said offset s × (offset ≤ end) × GoOn first said (max end (offset + length s.octets)) rest
+
+-- All segments are slices of what a remote says, from its beginning on, and none of them leaves a gap in front of it.
+pub record HaveNoGap (segments : List Segment) : Type 0 where
+  pub first : ℕ
+  pub said : List ℕ
+  pub first_fits : first < 2 ^ 32
+  pub said_fits : length said ≤ 2 ^ 20
+  pub go_on : GoOn first said 0 segments
+
+-- each remote's segments
+abbrev pub HaveNoGaps : (home : Option ℕ) → List Captured → Type 0
+HaveNoGaps home packets =
+    (k : ℕ) (peer : Peer) → slice_get (peers (directed home packets)) k ≡ Some peer → HaveNoGap (sent_by home peer packets)

@@ -5,9 +5,10 @@ ghost use Rattle.tcp_seq.specs.declared.segment.Way.TheVariants.{Home};
 ghost use Rattle.pcap_form.specs.Blocks.{Captured};
 ghost use Rattle.captured_streams.specs.declared.directed.Peer.{Peer};
 ghost use Rattle.captured_streams.specs.declared.streams.Streams.{Streams};
-ghost use Rattle.captured_streams.specs.Readings.{IsReading};
+ghost use Rattle.captured_streams.specs.declared.stop.Hole.{Hole};
+ghost use Rattle.captured_streams.specs.Readings.{IsReading, IsHole};
 ghost use Rattle.imported_sessions.specs.Messages.{stream};
-ghost use Rattle.captured_slices.specs.Slices.{sent_by, AreSlices};
+ghost use Rattle.captured_slices.specs.Slices.{sent_by, AreSlices, HaveNoGaps};
 
 /// Where all that a remote sends are slices of what it says, what is read of it is what it says, as far as they reach: in
 /// whatever order, however often and in whatever pieces they were captured.
@@ -15,4 +16,10 @@ pub fn slices_are_joined()
     ensures { (home : Option ℕ) (packets : List Captured) (s : Streams) (k : ℕ) (peer : Peer) (first : ℕ) (said : List ℕ) (reach : ℕ)
         → IsReading home packets s → slice_get s.peers k ≡ Some peer → AreSlices first said reach (sent_by home peer packets)
         → stream Home k s.flows ≡ take reach said }
+{}
+
+/// Where the segments of each remote are slices of what it says, none of which leaves a gap in front of it, the capture has no
+/// hole.
+pub fn no_gap_leaves_no_hole()
+    ensures { (home : Option ℕ) (packets : List Captured) (hole : Hole) → HaveNoGaps home packets → ¬ IsHole home packets hole }
 {}

@@ -3,4 +3,4 @@
 
 mod laws;
 
-pub use laws::slices_are_joined;
+pub use laws::{no_gap_leaves_no_hole, slices_are_joined};
