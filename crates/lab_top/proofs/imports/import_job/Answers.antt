@@ -8,7 +8,7 @@ pub returns-in-Err-TooLong : goal.returns-in-Err-TooLong
 returns-in-Err-TooLong g c =
     long_imported c.args.home _ _ c.end_refused.result (c.in-Err-TooLong.ensures.too_long (ap Err c.in-Err-TooLong.field-0-is)) c.end_refused.ensures
 
-pub returns-in-Ok-import_capture : goal.returns-in-Ok
+pub returns-in-Ok-import_capture : goal.returns-in-Ok-import_capture
 returns-in-Ok-import_capture g c =
     let read = c.in-Ok.ensures in
     let is = subst (λ octets. IsImported c.args.home octets c.in-Ok-import_capture.text) c.deref.ensures c.in-Ok-import_capture.ensures.imported in
