@@ -104,8 +104,9 @@ class Daemon:
     """A daemon: its AS, whether it opens sessions itself, whether it has a feed, the hold time that it tells, and as what its tool shows no MED."""
     name, as_number, active, has_feed, hold, no_med, environment = "", 0, True, True, 90, None, None
 
-    def __init__(self, network, folder, stack, routes, wide):
-        self.network, self.folder, self.routes, self.wide = network, folder, routes, wide
+    def __init__(self, network, folder, stack, routes, hold=None):
+        self.network, self.folder, self.routes = network, folder, routes
+        self.hold = self.hold if hold is None else hold
         self.log = stack.enter_context(open(f"{folder}/{self.name}.log", "wb"))
         self.file = f"{folder}/{self.name}.conf"
         with open(self.file, "w") as file:
@@ -152,13 +153,19 @@ class Bird(Daemon):
 
     def table(self):
         """What it exports to the home side, to which it adds its own AS in front."""
-        told = self.ask("birdc", "-s", f"{self.folder}/bird.ctl", "show", "route", "export", "home", "all")
+        return {prefix: ([self.as_number, *path], origin, med) for prefix, (path, origin, med) in self.shown("export").items()}
+
+    def heard(self):
+        return self.shown("protocol")
+
+    def shown(self, which):
+        told = self.ask("birdc", "-s", f"{self.folder}/bird.ctl", "show", "route", which, "home", "all")
         routes = {}
         for part in re.split(r"\n(?=\d)", told):
             found = dict(re.findall(r"BGP\.(\w+): ?(.*)", part))
             if found:
                 med = int(found["med"]) if "med" in found else None
-                routes[part.split()[0]] = [self.as_number, *self.ases(found.get("as_path", ""))], found["origin"].lower(), med
+                routes[part.split()[0]] = self.ases(found.get("as_path", "")), found["origin"].lower(), med
         return routes
 
 
@@ -194,11 +201,20 @@ class Frr(Daemon):
 
     def table(self):
         """What it says that it advertises, to which it adds its own AS in front."""
-        command = f"show bgp ipv4 unicast neighbors {HOME} advertised-routes json"
-        told = json.loads(self.ask("vtysh", "--vty_socket", self.folder, "-d", "bgpd", "-c", command))
-        origins = {"i": "igp", "e": "egp", "?": "incomplete", "IGP": "igp", "EGP": "egp"}
-        return {prefix: ([self.as_number, *self.ases(it["path"])], origins[it.get("origin", it.get("bgpOriginCode"))], it.get("metric"))
-                for prefix, it in told["advertisedRoutes"].items()}
+        told = self.shown("advertised-routes")["advertisedRoutes"]
+        return {prefix: ([self.as_number, *path], origin, med) for prefix, (path, origin, med) in self.routes_of(told).items()}
+
+    def heard(self):
+        told = self.shown("routes").get("routes", {})
+        return self.routes_of({prefix: routes[0] for prefix, routes in told.items()})
+
+    def shown(self, what):
+        command = f"show bgp ipv4 unicast neighbors {HOME} {what} json"
+        return json.loads(self.ask("vtysh", "--vty_socket", self.folder, "-d", "bgpd", "-c", command) or "{}")
+
+    def routes_of(self, told):
+        origins = {"i": "igp", "e": "egp", "?": "incomplete", "IGP": "igp", "EGP": "egp", "incomplete": "incomplete"}
+        return {prefix: (self.ases(it["path"]), origins[it.get("origin", it.get("bgpOriginCode"))], it.get("metric")) for prefix, it in told.items()}
 
 
 class Gobgp(Daemon):
@@ -227,7 +243,13 @@ class Gobgp(Daemon):
 
     def table(self):
         """Its Adj-RIB-Out."""
-        told = json.loads(self.ask("gobgp", "neighbor", HOME, "adj-out", "-a", "ipv4", "-j"))
+        return self.shown("adj-out")
+
+    def heard(self):
+        return self.shown("adj-in")
+
+    def shown(self, which):
+        told = json.loads(self.ask("gobgp", "neighbor", HOME, which, "-a", "ipv4", "-j") or "[]")
         routes = {}
         for prefix, paths in told.items() if isinstance(told, dict) else ((it["nlri"]["prefix"], [it]) for it in told):
             attributes = {it["type"]: it for it in paths[0]["attrs"]}
@@ -242,7 +264,12 @@ class Exabgp(Daemon):
                    "exabgp.api.cli": "false"}
 
     def configuration(self):
-        yield f"neighbor {HOME} {{ router-id {REMOTE}; local-address {REMOTE}; local-as {self.as_number}; peer-as {HOME_AS};"
+        # What it hears goes to a process of its own, which keeps it in a file. Its standard output has to stay open.
+        with open(f"{self.folder}/keep", "w") as script:
+            script.write(f"#!/bin/sh\ncat > {self.folder}/heard\n")
+        os.chmod(f"{self.folder}/keep", 0o755)
+        yield f"process keep {{ run {self.folder}/keep; encoder json; }}"
+        yield f"neighbor {HOME} {{ api {{ processes [ keep ]; receive {{ parsed; update; }} }} router-id {REMOTE}; local-address {REMOTE}; local-as {self.as_number}; peer-as {HOME_AS};"
         yield f"  hold-time {self.hold}; family {{ ipv4 unicast; }} announce {{ ipv4 {{"
         for route in self.routes:
             path = " ".join(map(str, [self.as_number, *route.path]))
@@ -261,6 +288,25 @@ class Exabgp(Daemon):
         """What it was configured with."""
         return {route.prefix: ([self.as_number, *route.path], route.origin, route.med) for route in self.routes}
 
+    def heard(self):
+        """What it has heard, by the UPDATEs that it wrote as JSON."""
+        routes = {}
+        with open(f"{self.folder}/heard") as lines:
+            for update in (json.loads(line)["neighbor"].get("message", {}).get("update", {}) for line in lines if line.endswith("\n")):
+                attributes = update.get("attribute", {})
+                for prefix in update.get("withdraw", {}).get("ipv4 unicast", []):
+                    routes.pop(prefix["nlri"] if isinstance(prefix, dict) else prefix, None)
+                for prefixes in update.get("announce", {}).get("ipv4 unicast", {}).values():
+                    for prefix in prefixes:
+                        routes[prefix["nlri"]] = self.path_of(attributes), attributes["origin"], attributes.get("med")
+        return routes
+
+    @staticmethod
+    def path_of(attributes):
+        """A path, of which it has sequence and set apart: the set is taken to come last."""
+        sequence, a_set = attributes.get("as-path", []), attributes.get("as-set", [])
+        return sequence + ([a_set] if a_set else [])
+
 
 class Openbgpd(Daemon):
     name, as_number, active, no_med = "openbgpd", 65005, False, 0
@@ -273,7 +319,8 @@ class Openbgpd(Daemon):
             med = f"metric {route.med}" if route.med is not None else ""
             yield f"network {route.prefix} set {{ origin {route.origin} {own} {med} {' '.join('community ' + it for it in route.communities)} }}"
         for address, number in ((HOME, HOME_AS), (FEED_AT, FEED_AS)):
-            yield f"neighbor {address} {{\n remote-as {number}\n passive\n holdtime {self.hold}\n announce IPv4 unicast\n}}"
+            # It can't be told to tell none; where its neighbour tells none there is none.
+            yield f"neighbor {address} {{\n remote-as {number}\n passive\n holdtime {self.hold or 90}\n announce IPv4 unicast\n}}"
         yield f"allow from any\nallow to {HOME}\ndeny to {FEED_AT}"
 
     def words(self):
@@ -286,9 +333,14 @@ class Openbgpd(Daemon):
 
     def table(self):
         """Its Adj-RIB-Out, in which routes of the feed have the MED with which they came: it doesn't go to another AS (RFC 4271, section 5.1.4)."""
-        told = self.ask("bgpctl", "-j", "-s", f"{self.folder}/openbgpd.sock", "show", "rib", "out", "neighbor", HOME)
-        routes = {it["prefix"]: (self.ases(it["aspath"]), it["origin"].lower(), it.get("metric")) for it in json.loads(told)["rib"]}
-        return {prefix: (path, origin, self.no_med if FEED_AS in path else med) for prefix, (path, origin, med) in routes.items()}
+        return {prefix: (path, origin, self.no_med if FEED_AS in path else med) for prefix, (path, origin, med) in self.shown("out").items()}
+
+    def heard(self):
+        return self.shown("in")
+
+    def shown(self, which):
+        told = self.ask("bgpctl", "-j", "-s", f"{self.folder}/openbgpd.sock", "show", "rib", which, "neighbor", HOME)
+        return {it["prefix"]: (self.ases(it["aspath"]), it["origin"].lower(), it.get("metric")) for it in json.loads(told or '{"rib": []}')["rib"]}
 
 
 DAEMONS = {it.name: it for it in (Bird, Frr, Gobgp, Exabgp, Openbgpd)}

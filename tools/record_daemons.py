@@ -86,7 +86,7 @@ def recorded(kind, wide, folder, capture):
     """Plays a session, records it, and returns the daemon's version and its table."""
     with contextlib.ExitStack() as stack:
         network = daemons.Network(stack)
-        daemon = kind(network, folder, stack, own_routes(), wide)
+        daemon = kind(network, folder, stack, own_routes())
         # A home side without any capability takes part too, but where a daemon wants IPv4 unicast to be told.
         home = Speaker(HOME_AS, HOME, 90 if wide or kind is daemons.Gobgp else 0, wide, wide or kind not in (daemons.Bird, daemons.Frr))
         with contextlib.ExitStack() as tap:
