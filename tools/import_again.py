@@ -13,7 +13,7 @@ import bgp_reader
 from bgp_reader import HEADER, KEEPALIVE, LONGEST, OPEN
 from captures import Wrong, read_capture, read_packet
 
-PORT, WINDOW = 179, 16384
+PORT, WINDOW, PIECE = 179, 16384, 4096
 MOST_FILE, MOST_TEXT, MOST_SAID, MOST_STEPS, MOST_PEERINGS = 268435456, 4194304, 1048576, 4095, 32
 PRIVATE = 64512
 MULTIPROTOCOL, UNICAST, FOUR_OCTETS = 1, b"\0\1\0\1", 65
@@ -101,8 +101,16 @@ def directed(packets, home):
             from_home = segment.source[1] == PORT if home is None else segment.source[0] == home
             if from_home or home is None or segment.target[0] == home:
                 ends = (segment.source, segment.target) if from_home else (segment.target, segment.source)
-                found.append((ends, not from_home, segment))
+                found += ((ends, not from_home, piece) for piece in pieces(segment))
     return found, fragments
+
+
+def pieces(segment):
+    """A segment in pieces of at most 4,096 octets: a capture that was made on a host has longer ones than others receive."""
+    yield segment._replace(octets=segment.octets[:PIECE])
+    for at in range(PIECE, len(segment.octets), PIECE):
+        number = (segment.first + at) % 2**32
+        yield segment._replace(opens=False, first=number, octets=segment.octets[at : at + PIECE])
 
 
 class Reading:

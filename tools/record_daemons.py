@@ -90,7 +90,7 @@ def recorded(kind, wide, folder, capture):
         # A home side without any capability takes part too, but where a daemon wants IPv4 unicast to be told.
         home = Speaker(HOME_AS, HOME, 90 if wide or kind is daemons.Gobgp else 0, wide, wide or kind not in (daemons.Bird, daemons.Frr))
         with contextlib.ExitStack() as tap:
-            words = ["tcpdump", "-i", "to-remote", "-U", "--immediate-mode", "-s", "0", "-w", capture, f"tcp port 179 and host {HOME}"]
+            words = ["tcpdump", "-i", "to-remote", "-U", "-B", "65536", "-w", capture, f"tcp port 179 and host {HOME}"]
             network.start("home", words, tap, open(f"{folder}/tcpdump.log", "wb"))
             until(lambda: os.path.exists(capture), "the beginning of the capture")
             play = Play(daemon, network, stack, home)
@@ -98,6 +98,8 @@ def recorded(kind, wide, folder, capture):
             play.open(home, HOME)
             play.until_quiet()
             play.later()
+            # What tcpdump has in its buffer is to come out, too.
+            time.sleep(2)
         return daemon.version(), daemon.table()
 
 
