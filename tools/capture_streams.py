@@ -117,7 +117,7 @@ class Case:
         answer = ask(program, "capture", "--workers", workers, given=text)
         self.status, self.file = answer.returncode, answer.stdout
         self.setup = Setup(text)
-        tables = tomllib.loads(text.decode())["peering"]
+        tables = tomllib.loads(text.decode()).get("peering", [])
         self.firsts = {it["remote_address"]: (it.get("home_seq", 1000), it.get("remote_seq", 5000)) for it in tables}
         self.has_raw = any("opening" in it for it in tables) or any(step.do == "raw" for step in self.setup.steps)
 

@@ -224,10 +224,10 @@ def head_text(it):
 
 def tail_text(it):
     """All that stands behind them."""
+    yield "[[step]]\n" + line("do", "settle") + "\n"
     yield "# Without the signs in front of it, each of these steps moves a session to the other router.\n\n"
     for number in it.kept:
         yield f'# [[step]]\n# do = "graft"\n# peering = "p{number + 1}"\n# to = "r2"\n\n'
-    yield "[[step]]\n" + line("do", "settle")
 
 
 def is_host(octets):

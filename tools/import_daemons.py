@@ -55,7 +55,7 @@ def splits(text):
     """The parts of a laboratory: what stands in front of its steps, the steps, each as a peering and its octets, and what stands behind."""
     steps = [(it[1], bytes.fromhex(it[2])) for it in RAW.finditer(text)]
     found = list(RAW.finditer(text))
-    begin, end = (found[0].start(), found[-1].end()) if found else (text.index("# Without"),) * 2
+    begin, end = (found[0].start(), found[-1].end()) if found else (text.index('[[step]]\ndo = "settle"'),) * 2
     return text[:begin], steps, text[end:]
 
 
