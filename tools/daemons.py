@@ -269,7 +269,8 @@ class Exabgp(Daemon):
             script.write(f"#!/bin/sh\ncat > {self.folder}/heard\n")
         os.chmod(f"{self.folder}/keep", 0o755)
         yield f"process keep {{ run {self.folder}/keep; encoder json; }}"
-        yield f"neighbor {HOME} {{ api {{ processes [ keep ]; receive {{ parsed; update; }} }} router-id {REMOTE}; local-address {REMOTE}; local-as {self.as_number}; peer-as {HOME_AS};"
+        yield f"neighbor {HOME} {{ api {{ processes [ keep ]; receive {{ parsed; update; }} }}"
+        yield f"  router-id {REMOTE}; local-address {REMOTE}; local-as {self.as_number}; peer-as {HOME_AS};"
         yield f"  hold-time {self.hold}; family {{ ipv4 unicast; }} announce {{ ipv4 {{"
         for route in self.routes:
             path = " ".join(map(str, [self.as_number, *route.path]))
