@@ -179,7 +179,7 @@ class Case:
             wide = shown["session"]["as_octets"] == 4
             told = {it["prefix"]: (plain(it["attrs"]["path"]), it["attrs"]["origin"], it["attrs"]["med"]) for it in shown["routes"]["told"]}
             self.test(routes_told(to_remote, wide) == told, f"{peering.name}: has other routes than it was told")
-        if self.workers == "1":
+        if self.workers == "1" and self.status == 0:
             counted = shown["session"]["sent"], shown["session"]["received"]
             wanted = [{"messages": len(it), "octets": len(b"".join(it))} for it in (found, import_again.messages(to_home)[0])]
             self.test(list(counted) == wanted or not is_up, f"{peering.name}: {wanted} captured, {counted} counted")
