@@ -1,6 +1,6 @@
 """Captures of packets, pcap and pcapng, and the segments of TCP over IPv4 in them: read as docs/INPUT.md says of `import`, and written.
 
-For the programs here that check `graftlab capture` and `graftlab import`; written from the formats alone, apart from the crates.
+For the programs here that check `graftlab capture` and `graftlab import`; written from the formats and the definitions, and not from the code.
 """
 import struct
 from typing import NamedTuple

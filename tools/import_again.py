@@ -1,5 +1,6 @@
 #!/usr/bin/env python3
-"""Imports a capture of BGP sessions, as `graftlab import` does: a second reading, from docs/INPUT.md and the standards alone.
+"""Imports a capture of BGP sessions, as `graftlab import` does: a second reading, from docs/INPUT.md, the definitions and the standards, and
+not from the code.
 
     tools/import_again.py [HOME] < CAPTURE
 
