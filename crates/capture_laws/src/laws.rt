@@ -15,6 +15,10 @@ ghost use Rattle.captured_streams.specs.Readings.{IsReading};
 ghost use Rattle.lab_capture.specs.Captures.{IsLabCapture};
 ghost use Rattle.capture_laws.specs.Remotes.{AreOfRemotes};
 
+use captured_slices::slices_are_joined;
+use pcap_form::{a_file_is_read_in_one_way, what_is_written_reads_back};
+use tcp_packets::what_is_written_is_read;
+
 /// The sessions that are read from the capture of a run are those of its remotes, and each says there what its remote has sent at
 /// least once: where the run has settled, all that its remote says.
 pub fn captures_say_what_remotes_say()
@@ -22,4 +26,9 @@ pub fn captures_say_what_remotes_say()
         → IsAccepted lab.input → IsLabCapture lab octets → IsCapture octets packets → IsReading None packets s
         → Run (setup_of lab.input) (first_world (setup_of lab.input)) events w → AreEntriesOf (setup_of lab.input) events lab.journal
         → AreOfRemotes lab.input w s }
-{}
+{
+    what_is_written_is_read();
+    what_is_written_reads_back();
+    a_file_is_read_in_one_way();
+    slices_are_joined();
+}

@@ -1,4 +1,4 @@
-//! The capture of a run, imported, is a laboratory whose remotes say the same octets.
+//! What is read of the capture of a run is what its remotes sent.
 #![tactic(auto)]
 
 mod laws;

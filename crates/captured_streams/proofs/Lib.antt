@@ -1,6 +1,7 @@
 pub mod Positions
 pub mod Numbering
 pub mod Segments
+pub mod Cutting
 pub mod Flowing
 pub mod Bringing
 pub mod Holes

@@ -9,27 +9,27 @@ use Rattle.pcap_form.specs.Blocks.{Captured}
 use Rattle.tcp_packets.specs.declared.read.LeftOut.{LeftOut}
 use Rattle.tcp_packets.specs.Reading.{Segment, read_packet}
 use Rattle.captured_streams.specs.declared.directed.Directed.{Directed}
-use Rattle.captured_streams.specs.Directed.{directed, directed_in}
+use Rattle.captured_streams.specs.Directed.{directed_in, whole_segments}
 use Rattle.captured_streams.specs.Readings.{is_left, is_fragment}
 
 module _ (home : Option ℕ) (packets : List Captured) (i : ℕ) (p : Captured) (below : i < length packets) (at : p ≡ get_or packets i p) where
-  directed_more : directed home (take (i + 1) packets) ≡ directed home (take i packets) ++ directed_in home (read_packet p)
-  directed_more =
+  whole_more : whole_segments home (take (i + 1) packets) ≡ whole_segments home (take i packets) ++ directed_in home (read_packet p)
+  whole_more =
       let f : Captured → List Directed = λ q. directed_in home (read_packet q) in
       ap (flat_map f) (take_more packets i p below) ∙ sym (flat_map_more f [] (take i packets) (get_or packets i p))
-      ∙ ap (λ (q : Captured). directed home (take i packets) ++ f q) (sym at)
+      ∙ ap (λ (q : Captured). whole_segments home (take i packets) ++ f q) (sym at)
 
-  pub one_more : (old new : List Directed) (r : Result Segment LeftOut) (d : Directed) → old ≡ directed home (take i packets) → r ≡ read_packet p
-      → directed_in home r ≡ d ∷ [] → new ≡ old ++ d ∷ [] → new ≡ directed home (take (i + 1) packets)
+  pub one_more : (old new : List Directed) (r : Result Segment LeftOut) (d : Directed) → old ≡ whole_segments home (take i packets) → r ≡ read_packet p
+      → directed_in home r ≡ d ∷ [] → new ≡ old ++ d ∷ [] → new ≡ whole_segments home (take (i + 1) packets)
   one_more old new r d so_far is one joins =
       joins ∙ ap (λ (xs : List Directed). xs ++ d ∷ []) so_far
-      ∙ ap (λ (xs : List Directed). directed home (take i packets) ++ xs) (sym one ∙ ap (directed_in home) is) ∙ sym directed_more
+      ∙ ap (λ (xs : List Directed). whole_segments home (take i packets) ++ xs) (sym one ∙ ap (directed_in home) is) ∙ sym whole_more
 
-  pub none_more : (old : List Directed) (r : Result Segment LeftOut) → old ≡ directed home (take i packets) → r ≡ read_packet p
-      → directed_in home r ≡ [] → old ≡ directed home (take (i + 1) packets)
+  pub none_more : (old : List Directed) (r : Result Segment LeftOut) → old ≡ whole_segments home (take i packets) → r ≡ read_packet p
+      → directed_in home r ≡ [] → old ≡ whole_segments home (take (i + 1) packets)
   none_more old r so_far is none =
-      so_far ∙ sym (append-nil (directed home (take i packets)))
-      ∙ ap (λ (xs : List Directed). directed home (take i packets) ++ xs) (sym none ∙ ap (directed_in home) is) ∙ sym directed_more
+      so_far ∙ sym (append-nil (whole_segments home (take i packets)))
+      ∙ ap (λ (xs : List Directed). whole_segments home (take i packets) ++ xs) (sym none ∙ ap (directed_in home) is) ∙ sym whole_more
 
   pub fragment_more : (n : ℕ) (r : Result Segment LeftOut) → r ≡ read_packet p → is_left r ≡ true → n ≡ count_by is_fragment (take i packets)
       → n + 1 ≡ count_by is_fragment (take (i + 1) packets)

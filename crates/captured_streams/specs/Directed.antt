@@ -1,6 +1,7 @@
 -- Segments of BGP's connections, and which way they go.
-use Rattle.std.specs.Prelude.{ℕ, ◌==◌, Bool, ◌||◌, if◌then◌else◌, List, [], ◌∷◌, Option, Some, None, Result, Ok, Err}
+use Rattle.std.specs.Prelude.{ℕ, zero, suc, ◌==◌, nat_le, Bool, false, ◌||◌, if◌then◌else◌, List, [], ◌∷◌, length, take, drop, Option, Some, None, Result, Ok, Err}
 use Rattle.std.specs.List.{flat_map}
+use Rattle.tcp_seq.specs.Numbers.{plus}
 use Rattle.tcp_seq.specs.declared.segment.Way.{Way}
 use Rattle.tcp_seq.specs.declared.segment.Way.TheVariants.{Home, Remote}
 use Rattle.pcap_form.specs.Blocks.{Captured}
@@ -33,5 +34,28 @@ directed_in home (Err left) = []
 directed_in home (Ok s) = if is_bgp s then directed_on (way_of home s) s else []
 
 -- those of a capture, in its order
+abbrev pub whole_segments : (home : Option ℕ) → List Captured → List Directed
+whole_segments home packets = flat_map (λ packet. directed_in home (read_packet packet)) packets
+
+-- ---- in pieces
+
+-- the first 4,096 octets of a segment, and those behind them
+abbrev pub front : Directed → Directed
+front s = record s { segment = record s.segment { octets = take 4096 s.segment.octets } }
+
+abbrev pub behind : Directed → Directed
+behind s = record s { segment = record s.segment { opens = false; first = plus s.segment.first 4096; octets = drop 4096 s.segment.octets } }
+
+-- a segment in pieces of 4,096 octets: so many, and what is behind them
+abbrev pub pieces : ℕ → Directed → List Directed
+pieces zero s = s ∷ []
+pieces (suc n) s = if nat_le (length s.segment.octets) 4096 then s ∷ [] else front s ∷ pieces n (behind s)
+
+-- Where the network card cuts what a host sends, a capture that was made there has segments far longer than those that others receive, and longer than a
+-- window. They are taken in pieces of at most 4,096 octets; 16 of these are as much as a packet of IPv4 can have.
+abbrev pub in_pieces : Directed → List Directed
+in_pieces s = pieces 16 s
+
+-- all segments of a capture, in its order
 abbrev pub directed : (home : Option ℕ) → List Captured → List Directed
-directed home packets = flat_map (λ packet. directed_in home (read_packet packet)) packets
+directed home packets = flat_map in_pieces (whole_segments home packets)

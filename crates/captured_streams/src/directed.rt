@@ -3,7 +3,7 @@
 ghost use Rattle.std.specs.Prelude.{◌≡◌, ◌<◌, ◌^◌, ◌∷◌, [], List, length, count_by, IfOk, IfSome, MatchOption};
 ghost use Rattle.std.specs.List.{All};
 ghost use Rattle.captured_streams.specs.Directed.{is_bgp as is_bgp_lem, way_of as way_of_lem, peer_of as peer_of_lem};
-ghost use Rattle.captured_streams.specs.Directed.{directed, directed_in};
+ghost use Rattle.captured_streams.specs.Directed.{directed_in, whole_segments};
 ghost use Rattle.captured_streams.specs.Readings.{is_fragment};
 
 use graft_edge::{Items, NoMemory};
@@ -102,7 +102,7 @@ pub(crate) fn directed_segments<'a>(
     home: Option<u32>,
     packets: &[Packet<'a>],
 ) -> Result<Found<'a>, NoMemory>
-    ensures segments { IfOk result (λ found. found.segments ≡ directed home packets.now) }
+    ensures segments { IfOk result (λ found. found.segments ≡ whole_segments home packets.now) }
     ensures fragments { IfOk result (λ found. found.fragments ≡ count_by is_fragment packets.now) }
     ensures short { IfOk result (λ found. All (λ s. length s.segment.octets < 2 ^ 16) found.segments) }
 {

@@ -5,6 +5,7 @@ mod directed;
 mod flows;
 mod laws;
 mod peers;
+mod pieces;
 mod stop;
 mod streams;
 

@@ -8,6 +8,7 @@ ghost use Rattle.captured_streams.specs.Readings.{IsHole, IsReading};
 use crate::directed::{Peer, directed_segments};
 use crate::flows::{bring_all, first_hole};
 use crate::peers::Peers;
+use crate::pieces::in_pieces;
 use crate::stop::StreamStop;
 use graft_edge::{Items, Octets};
 use pcap_form::Packet;
@@ -34,7 +35,7 @@ pub struct Streams {
     pub flows: Items<Flow>,
     /// How many packets were left out as fragments.
     pub fragments: u64,
-    /// How many segments were left out as those of other connections.
+    /// How many segments were left out as those of other connections, longer ones by pieces of 4,096 octets.
     pub others: u64,
 }
 
@@ -42,7 +43,7 @@ pub struct Streams {
 /// home end; without it that is the end with BGP's port. Of each remote the first connection on which it sends octets is its
 /// session: attempts that failed come before it. Each stream is put in order by a receiver with a window of 16,384
 /// octets, from the segment that opens the connection on, or else from the first one with octets: they may be repeated, out
-/// of order, and overlap, and an octet that is there stays. Of a remote's octets none may be missing; else the error is the
+/// of order, and overlap, and an octet that is there stays. Segments longer than 4,096 octets are taken in pieces. Of a remote's octets none may be missing; else the error is the
 /// first hole: one in front of a segment beyond the window, in the order of the capture, or else one that is left at its
 /// end, in the order of the connections. The time that it takes grows with the number of octets.
 pub fn captured_streams(
@@ -54,8 +55,9 @@ pub fn captured_streams(
     ensures hole { (hole : HoleValue) → result ≡ Err (stops.Hole hole) → IsHole home packets.now hole }
 {
     let found = directed_segments(alloc, home, packets)?;
-    let peers = Peers::of(alloc, &found.segments)?;
-    let all = bring_all(alloc, &peers, &found.segments)?;
+    let segments = in_pieces(alloc, &found.segments)?;
+    let peers = Peers::of(alloc, &segments)?;
+    let all = bring_all(alloc, &peers, &segments)?;
     if let Some(hole) = first_hole(&peers.list, &all.streams) {
         return Err(StreamStop::Hole(hole));
     }

@@ -1,8 +1,8 @@
 -- What a capture is imported as.
 use Rattle.std.specs.Prelude.{ℕ, ◌≡◌, ◌≤◌, ◌<◌, ◌+◌, ◌==◌, ◌&&◌, if◌then◌else◌, Bool, false, List, [], ◌∷◌, ◌++◌, length, filter_map}
-use Rattle.std.specs.Prelude.{Option, Some, None, option_map, is_some, IsSome, slice_get, list_any, bytes_eq}
+use Rattle.std.specs.Prelude.{Option, Some, None, option_map, is_some, IsSome, slice_get, bytes_eq}
 use Rattle.std.specs.Option.{option_map_or}
-use Rattle.std.specs.List.{All, flat_map, enumerate_from}
+use Rattle.std.specs.List.{All, flat_map, enumerate_from, list_any}
 use Rattle.tcp_seq.specs.declared.segment.Way.TheVariants.{Home}
 use Rattle.bgp_types.specs.declared.message.Cap.{Cap}
 use Rattle.bgp_types.specs.declared.message.OpenMsg.{OpenMsg}
@@ -21,35 +21,35 @@ use Rattle.imported_sessions.specs.declared.imported.Imported.{Imported}
 
 -- an OPEN has the capability of four-octet AS numbers (RFC 6793, section 3)
 abbrev pub is_wide : OpenMsg → Bool
-is_wide open = is_some (as_said open.caps)
+is_wide o = is_some (as_said o.caps)
 
 -- the capability of IPv4 unicast: AFI 1, SAFI 1 (RFC 4760, section 8)
 abbrev pub is_unicast : Cap → Bool
 is_unicast cap = cap.code == 1 && bytes_eq cap.bytes (0 ∷ 1 ∷ 0 ∷ 1 ∷ [])
 
 abbrev pub has_unicast : OpenMsg → Bool
-has_unicast open = list_any is_unicast open.caps
+has_unicast o = list_any is_unicast o.caps
 
 -- The peering of a connection whose remote's OPEN and, if it was captured, whose home side's OPEN is this. A home side whose OPEN wasn't captured
 -- supports four-octet AS numbers if the remote does.
 abbrev pub peering_with : Streams → (k : ℕ) → Peer → OpenMsg → Option OpenMsg → ImportedPeering
-peering_with s k peer open home = record {
+peering_with s k peer o home = record {
   peer = k;
-  remote_as = as_of open;
+  remote_as = as_of o;
   remote_address = peer.remote.address;
   local_address = peer.home.address;
-  remote_id = open.identifier;
-  hold = open.hold;
+  remote_id = o.identifier;
+  hold = o.hold;
   opening = opening (messages k s.flows);
-  as4 = option_map_or is_wide home (is_wide open);
-  remote_as4 = is_wide open;
+  as4 = option_map_or is_wide home (is_wide o);
+  remote_as4 = is_wide o;
   home_hold = option_map_or (λ o. o.hold) home 0;
   unicast = option_map_or has_unicast home false;
 }
 
 abbrev pub peering_at : Streams → (home_as : ℕ) → ℕ × Peer → Option ImportedPeering
 peering_at s home_as (k, peer) =
-    if is_external s home_as k then option_map (λ open. peering_with s k peer open (home_open s k)) (remote_open s k) else None
+    if is_external s home_as k then option_map (λ o. peering_with s k peer o (home_open s k)) (remote_open s k) else None
 
 -- those of all connections to other ASes, in their order
 abbrev pub peerings : Streams → (home_as : ℕ) → List ImportedPeering
@@ -61,7 +61,7 @@ peerings s home_as = filter_map (peering_at s home_as) (enumerate_from 0 s.peers
 pub record IsImport (s : Streams) (i : Imported) : Type 0 where
   pub opens : (k : ℕ) → k < length s.peers → IsSome (remote_open s k)
   pub home_as : IsHomeAs (remote_opens s) (first_home s) i.home_as
-  pub home_id : i.home_id ≡ option_map (λ open. open.identifier) (first_home s)
+  pub home_id : i.home_id ≡ option_map (λ o. o.identifier) (first_home s)
   pub peerings_are : i.peerings ≡ peerings s i.home_as
   pub steps : AreSteps (is_external s i.home_as) (length s.peers) s.flows i.steps
   pub internal : i.internal + length i.peerings ≡ length s.peers

@@ -35,8 +35,8 @@ unfinished k flows = (many frame_at (stream Home k flows)).1
 -- How many messages are what a remote says at first: its OPEN, and a KEEPALIVE behind it, if both have at most 4,096 octets.
 abbrev pub opening_len : List (List ℕ) → ℕ
 opening_len [] = 0
-opening_len (open ∷ []) = 1
-opening_len (open ∷ next ∷ rest) = if kind_in next == 4 && nat_le (length open + length next) 4096 then 2 else 1
+opening_len (first ∷ []) = 1
+opening_len (first ∷ next ∷ rest) = if kind_in next == 4 && nat_le (length first + length next) 4096 then 2 else 1
 
 -- their octets
 abbrev pub opening : List (List ℕ) → List ℕ

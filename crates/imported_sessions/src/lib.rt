@@ -2,8 +2,13 @@
 //! they say the rest.
 #![tactic(auto)]
 
+mod heard;
+mod home;
 mod imported;
+mod opened;
+mod peerings;
 mod sessions;
+mod steps;
 
 pub use imported::{Imported, ImportedPeering, Said};
 pub use sessions::{ImportStop, import_sessions};

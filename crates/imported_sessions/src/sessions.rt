@@ -5,9 +5,14 @@ ghost use Rattle.tcp_packets.specs.declared.socket.Socket.{Socket as SocketValue
 ghost use Rattle.imported_sessions.specs.declared.sessions.ImportStop.TheVariants as stops;
 ghost use Rattle.imported_sessions.specs.Imports.{AreSmall, IsFirstWithoutOpen, IsImport, SayAll};
 
+use crate::heard::hear;
+use crate::home::{home_as, home_id};
 use crate::imported::Imported;
+use crate::opened::open_all;
+use crate::peerings::keep;
+use crate::steps::pack;
 use captured_streams::Streams;
-use graft_edge::NoMemory;
+use graft_edge::{Items, NoMemory};
 use std::alloc::Global;
 use tcp_packets::Socket;
 use thiserror::Error;
@@ -45,4 +50,19 @@ pub fn import_sessions(alloc: Global, streams: &Streams) -> Result<Imported, Imp
     ensures small { IfOk result AreSmall }
     ensures stop { (remote : SocketValue) → result ≡ Err (stops.NoOpen remote) → IsFirstWithoutOpen streams.now remote }
 {
+    let heard = hear(alloc, streams.peers.len(), &streams.flows)?;
+    let opened = open_all(alloc, streams, heard.sessions)?;
+    let home_as = home_as(alloc, &opened)?;
+    let home_id = home_id(&opened);
+    let mut steps = pack(alloc, &opened, home_as, heard.said)?;
+    let kept = keep(alloc, streams, opened, home_as, &mut steps)?;
+    Ok(Imported {
+        home_as,
+        home_id,
+        peerings: kept.peerings,
+        steps: Items::from_vec(steps),
+        internal: kept.internal,
+        fragments: streams.fragments,
+        others: streams.others,
+    })
 }

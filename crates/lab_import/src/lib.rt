@@ -2,7 +2,11 @@
 #![tactic(auto)]
 
 mod capture;
+mod keys;
 mod limits;
+mod same;
+mod steps;
+mod tables;
 mod text;
 
 pub use capture::{CaptureFault, MOST_CAPTURE, Unimported, fault_line, import_capture};

@@ -11,7 +11,8 @@ use Rattle.lab_report.specs.declared.lab.Lab.{Lab}
 use Rattle.lab_top.specs.declared.views.ViewName.{ViewName}
 use Rattle.lab_top.specs.declared.views.ViewName.TheVariants as names
 use Rattle.lab_top.specs.Views.{ShowsView, viewing}
-use Rattle.lab_top.specs.Ends.{AreRefused, AskToAudit, AskToCheck, RunsSource, AskForLab, AskToMake, AskForLine, AskUnread, TookBadInput, end_status}
+use Rattle.lab_top.specs.Ends.{AreRefused, AskToAudit, AskToCheck, AskToImport, RunsSource, AskForLab, AskToMake, AskForLine, AskUnread, TookBadInput}
+use Rattle.lab_top.specs.Ends.{end_status}
 use Rattle.lab_top.specs.Cases.{TookWhole, ReadsSource, RunsLab, plain_text, Gives, Refuses, Tells, job_status}
 
 -- what holds of the job that is asked for holds of a job that the same words ask for
@@ -146,13 +147,14 @@ make_asked words seed job make ask = of_asked (λ j. plain_text j ≡ Some (made
 
 -- words that are refused, or ask for a job without a run
 pub no_lab : (words : List (List ℕ)) (job : Job) → Asks words job
-    → AreRefused words ⊎ AskToMake words ⊎ ((form : Form) × AskToCheck words form) ⊎ AskToAudit words ⊎ ((line : List ℕ) × AskForLine words line)
-    → RunsLab job → ⊥
+    → AreRefused words ⊎ AskToMake words ⊎ ((form : Form) × AskToCheck words form) ⊎ AskToAudit words ⊎ ((home : Option ℕ) × AskToImport words home)
+    ⊎ ((line : List ℕ) × AskForLine words line) → RunsLab job → ⊥
 no_lab words job ask (inl none) lab = none job ask
 no_lab words job ask (inr (inl make)) lab = plain_is_no_lab job (made make.0) (make_asked words make.0 job make.1 ask) lab
 no_lab words job ask (inr (inr (inl check))) lab = of_asked RunsLab words job (jobs.Check check.0) ask check.1 lab
 no_lab words job ask (inr (inr (inr (inl audit)))) lab = of_asked RunsLab words job jobs.Audit ask audit lab
-no_lab words job ask (inr (inr (inr (inr line)))) lab = plain_is_no_lab job line.0 (line_asked words line.0 job line.1 ask) lab
+no_lab words job ask (inr (inr (inr (inr (inl imported))))) lab = of_asked RunsLab words job (jobs.Import imported.0) ask imported.1 lab
+no_lab words job ask (inr (inr (inr (inr (inr line))))) lab = plain_is_no_lab job line.0 (line_asked words line.0 job line.1 ask) lab
 
 pub unread_job : (words : List (List ℕ)) (job : Job) → Asks words job → AskUnread words → ¬ (ReadsSource job)
 unread_job words job ask (inl none) = λ reads. none job ask

@@ -1,5 +1,5 @@
 -- What holds of every end.
-use Rattle.std.proofs.Common.{◌≡◌, ℕ, Bool, true, false, ◌==◌, ◌||◌, List, inl, inr, refl, subst, sym, ◌∙◌, ap, arith}
+use Rattle.std.proofs.Common.{◌≡◌, ℕ, ◌<◌, Bool, true, false, ◌==◌, ◌||◌, List, inl, inr, refl, subst, sym, ◌∙◌, ap, arith}
 use Rattle.std.specs.Prelude.{◌⊎◌, Option, Some, None, Result, Ok, Err, IsSome, IsSomeAnd, IfSome, OnSome}
 use Rattle.std.proofs.lemmas.Bool.{false≢true}
 use Rattle.graft_edge.specs.Outside.{FaultRose, Appended, AppendedFront}
@@ -23,10 +23,10 @@ use Rattle.lab_top.specs.Views.{viewing}
 use Rattle.lab_top.specs.Ends.{AreRefused, AskToCheck, AskToRun, AskForJournal, AskForCapture, AskToTest, AskToView, RunsSource, AskToSum, AskToDrill, AskForLab}
 use Rattle.lab_audit.specs.declared.audited.AuditEnd.{AuditEnd}
 use Rattle.lab_audit.specs.declared.audited.AuditEnd.TheVariants as audit_ends
-use Rattle.lab_top.specs.Ends.{AskToAudit, AskToMake, AskForLine, Audits, ReadsInput, ReadsText, audit_status}
+use Rattle.lab_top.specs.Ends.{AskToAudit, AskToImport, AskToMake, AskForLine, Audits, Imports, ReadsInput, ReadsText, ReadsCapture, SaysImport, audit_status}
 use Rattle.lab_top.specs.Ends.{TookInput, GaveBadInput, IsStatus, WritesText, WritesReport, WritesJournal, WritesCapture, WritesView, Checks, end_status}
 use Rattle.lab_top.specs.Ends.{SaysVerdict, verdict_status, tested_status, HasFailed}
-use Rattle.lab_top.specs.Cases.{Outside, RunsLab, plain_text, Gives, Refuses, Tells, job_status, Cause, tells, checks, audits, refuses, misses, runs}
+use Rattle.lab_top.specs.Cases.{Outside, RunsLab, plain_text, Gives, Refuses, Tells, job_status, Cause, tells, checks, audits, imports, refuses, misses, runs}
 use Rattle.lab_top.specs.Cases.{Did, wrote, unread, Ended, refused, did, no_memory}
 use Rattle.lab_top.proofs.Asking.{of_asked, plain_is_no_lab, plain_reads_none, views_run, took_of, view_status, view_shown, lab_asked}
 use Rattle.lab_top.proofs.Asking.{reads_source, runs_lab, none_run, line_asked, make_asked, no_lab}
@@ -71,12 +71,36 @@ audit_planned planned audit_ends.NoJournal p = inl p
 audit_planned planned audit_ends.Yes p = inr (inr (inl p))
 audit_planned planned audit_ends.No p = inr (inl p)
 
+-- a capture is imported under 0, and refused under 2
+abbrev OfImport : ℕ → Type 0
+OfImport planned = (planned ≡ 0) ⊎ (planned ≡ 2)
+
+said_import : (home : Option ℕ) (octets text : List ℕ) (planned : ℕ) → SaysImport home octets text planned → OfImport planned
+said_import home octets text planned (inl imported) = inl imported.1
+said_import home octets text planned (inr fault) = inr fault.3
+
+of_import : (home : Option ℕ) (left rest : Option (List ℕ)) (text : List ℕ) (planned : ℕ) → ReadsCapture home left rest text planned → OfImport planned
+of_import home left rest text planned reads =
+    elim reads.says [
+      | inl whole ↦ said_import home reads.octets text planned whole.2
+      | inr long ↦ inr long.2
+    ]
+
+import_planned : (planned : ℕ) → OfImport planned → Planned planned
+import_planned planned (inl zero) = inr (inr (inl zero))
+import_planned planned (inr two) = inl two
+
+not_of_import : (other planned : ℕ) → 2 < other → OfImport planned → planned ≡ other → ⊥
+not_of_import other planned more (inl zero) is = absurd (omega (arith, more, zero, is))
+not_of_import other planned more (inr two) is = absurd (omega (arith, more, two, is))
+
 planned_by : (job : Job) (left rest : Option (List ℕ)) (text : List ℕ) (planned : ℕ) (lab : Option Lab) → Cause job left rest text planned lab
     → Planned planned
 planned_by job left rest text planned lab (tells t p l) = inr (inr (inl p))
 planned_by job left rest text planned lab (checks form (Ok input) is read t p l) = inr (inr (inl p))
 planned_by job left rest text planned lab (checks form (Err bad) is read t p l) = inl p
 planned_by job left rest text planned lab (audits end is reads p l) = audit_planned planned end p
+planned_by job left rest text planned lab (imports home is reads l) = import_planned planned (of_import home left rest text planned reads)
 planned_by job left rest text planned lab (refuses run why p l) = inl p
 planned_by job left rest text planned lab (misses input view workers name is read none t p l) = inl p
 planned_by job left rest text planned lab (runs bytes end run gives is told ran p l) = inr (inr (subst OfRun (sym p) (job_of_run job end)))
@@ -157,6 +181,7 @@ plain_cause : (job : Job) (left rest : Option (List ℕ)) (text told : List ℕ)
 plain_cause job left rest text told planned lab plain (tells t p l) = (some_is text told (sym t ∙ plain), p)
 plain_cause job left rest text told planned lab plain (checks form answer is read t p l) = absurd (not_plain job (jobs.Check form) told refl plain is)
 plain_cause job left rest text told planned lab plain (audits end is reads p l) = absurd (not_plain job jobs.Audit told refl plain is)
+plain_cause job left rest text told planned lab plain (imports home is reads l) = absurd (not_plain job (jobs.Import home) told refl plain is)
 plain_cause job left rest text told planned lab plain (refuses run why p l) = absurd (plain_is_no_lab job told plain run)
 plain_cause job left rest text told planned lab plain (misses input view workers name is read none t p l) =
     absurd (plain_is_no_lab job told plain (subst RunsLab (sym is) (views_run view workers)))
@@ -200,12 +225,16 @@ same_form a b e = cc
 check_no_audit : (form : Form) → jobs.Check form ≡ jobs.Audit → ⊥
 check_no_audit form e = let f : ⊥ = cc in f
 
+check_no_import : (form : Form) (home : Option ℕ) → jobs.Check form ≡ jobs.Import home → ⊥
+check_no_import form home e = let f : ⊥ = cc in f
+
 check_cause : (form : Form) (left rest : Option (List ℕ)) (text : List ℕ) (planned : ℕ) (lab : Option Lab)
     → Cause (jobs.Check form) left rest text planned lab → Verdict form left rest text planned
 check_cause form left rest text planned lab (tells t p l) = absurd (none_told text t)
 check_cause form left rest text planned lab (checks other answer is read t p l) =
     (answer, read, subst (λ f. SaysVerdict f read.bytes answer text) (same_form form other is) t, p)
 check_cause form left rest text planned lab (audits end is reads p l) = absurd (check_no_audit form is)
+check_cause form left rest text planned lab (imports home is reads l) = absurd (check_no_import form home is)
 check_cause form left rest text planned lab (refuses run why p l) = absurd run
 check_cause form left rest text planned lab (misses input view workers name is read none t p l) = absurd (subst RunsLab (sym is) (views_run view workers))
 check_cause form left rest text planned lab (runs bytes end run gives is told ran p l) = absurd run
@@ -232,11 +261,15 @@ checked_told words o n status lab (no_memory six same l) form check = inr (inl s
 
 -- ---- a journal is audited
 
+audit_no_import : (home : Option ℕ) → jobs.Audit ≡ jobs.Import home → ⊥
+audit_no_import home e = let f : ⊥ = cc in f
+
 audit_cause : (left rest : Option (List ℕ)) (text : List ℕ) (planned : ℕ) (lab : Option Lab) → Cause jobs.Audit left rest text planned lab
     → (end : AuditEnd) × ReadsText left rest text end × (planned ≡ audit_status end)
 audit_cause left rest text planned lab (tells t p l) = absurd (none_told text t)
 audit_cause left rest text planned lab (checks form answer is read t p l) = absurd (check_no_audit form (sym is))
 audit_cause left rest text planned lab (audits end is reads p l) = (end, reads, p)
+audit_cause left rest text planned lab (imports home is reads l) = absurd (audit_no_import home is)
 audit_cause left rest text planned lab (refuses run why p l) = absurd run
 audit_cause left rest text planned lab (misses input view workers name is read none t p l) = absurd (subst RunsLab (sym is) (views_run view workers))
 audit_cause left rest text planned lab (runs bytes end run gives is told ran p l) = absurd run
@@ -255,6 +288,36 @@ audited_told words o n status lab (did job ask d) audit =
     audit_did o n status lab (of_asked (λ j. Did j o n status lab) words job jobs.Audit ask audit d)
 audited_told words o n status lab (no_memory six same l) audit = inr (inl six)
 
+-- ---- a capture is imported
+
+-- the home side has one address
+same_home : (a b : Option ℕ) → jobs.Import a ≡ jobs.Import b → b ≡ a
+same_home a b e = cc
+
+import_cause : (home : Option ℕ) (left rest : Option (List ℕ)) (text : List ℕ) (planned : ℕ) (lab : Option Lab)
+    → Cause (jobs.Import home) left rest text planned lab → ReadsCapture home left rest text planned
+import_cause home left rest text planned lab (tells t p l) = absurd (none_told text t)
+import_cause home left rest text planned lab (checks form answer is read t p l) = absurd (check_no_import form home (sym is))
+import_cause home left rest text planned lab (audits end is reads p l) = absurd (audit_no_import home (sym is))
+import_cause home left rest text planned lab (imports other is reads l) =
+    subst (λ h. ReadsCapture h left rest text planned) (same_home home other is) reads
+import_cause home left rest text planned lab (refuses run why p l) = absurd run
+import_cause home left rest text planned lab (misses input view workers name is read none t p l) = absurd (subst RunsLab (sym is) (views_run view workers))
+import_cause home left rest text planned lab (runs bytes end run gives is told ran p l) = absurd run
+
+import_did : (home : Option ℕ) (o n : Outside) (status : ℕ) (lab : Option Lab) → Did (jobs.Import home) o n status lab
+    → (status ≡ 4) ⊎ (status ≡ 6) ⊎ Imports home o.left n.left o.write_faults n.write_faults o.written n.written status
+import_did home o n status lab (wrote text planned cause w) =
+    inr (inr (record { text = text; planned = planned; reads = import_cause home o.left n.left text planned lab cause; wrote = w }))
+import_did home o n status lab (unread reads four rose same l) = inl four
+
+pub imported_told : (words : List (List ℕ)) (o n : Outside) (status : ℕ) (lab : Option Lab) → Ended words o n status lab → (home : Option ℕ)
+    → AskToImport words home → (status ≡ 4) ⊎ (status ≡ 6) ⊎ Imports home o.left n.left o.write_faults n.write_faults o.written n.written status
+imported_told words o n status lab (refused none w l) home asks = absurd (none (jobs.Import home) asks)
+imported_told words o n status lab (did job ask d) home asks =
+    import_did home o n status lab (of_asked (λ j. Did j o n status lab) words job (jobs.Import home) ask asks d)
+imported_told words o n status lab (no_memory six same l) home asks = inr (inl six)
+
 -- ---- an input is refused
 
 gave_bad : (words : List (List ℕ)) (left rest : Option (List ℕ)) (text : List ℕ) (job : Job) → Asks words job → Refuses job left rest text
@@ -269,7 +332,7 @@ not_of_run other planned job end fails p is =
 -- an audit that is refused
 no_journal : (words : List (List ℕ)) (left rest : Option (List ℕ)) (text : List ℕ) (planned : ℕ) (end : AuditEnd) → AskToAudit words
     → ReadsText left rest text end → planned ≡ audit_status end → planned ≡ 2 → GaveBadInput words left rest text
-no_journal words left rest text planned audit_ends.NoJournal audit reads p two = inr (inr (inr (audit, reads)))
+no_journal words left rest text planned audit_ends.NoJournal audit reads p two = inr (inr (inr (inl (audit, reads))))
 no_journal words left rest text planned audit_ends.Yes audit reads p two = let zero : planned ≡ 0 = p in absurd (omega (arith, zero, two))
 no_journal words left rest text planned audit_ends.No audit reads p two = let eight : planned ≡ 8 = p in absurd (omega (arith, eight, two))
 
@@ -280,6 +343,8 @@ bad_by words job left rest text planned lab ask (checks form (Ok input) is read 
 bad_by words job left rest text planned lab ask (checks form (Err bad) is read t p l) two = inl (record { answer = Err bad; read = read; why = t })
 bad_by words job left rest text planned lab ask (audits end is reads p l) two =
     no_journal words left rest text planned end (subst (Asks words) is ask) reads p two
+bad_by words job left rest text planned lab ask (imports home is reads l) two =
+    inr (inr (inr (inr (home, subst (Asks words) is ask, subst (ReadsCapture home left rest text) two reads))))
 bad_by words job left rest text planned lab ask (refuses run why p l) two = gave_bad words left rest text job ask why
 bad_by words job left rest text planned lab ask (misses input view workers name is read none t p l) two =
     inr (inr (inl (record { input = input; view = view; name = name; read = read; asks = (workers, subst (Asks words) is ask); none = none; says = t })))
@@ -304,6 +369,7 @@ two_of : (job : Job) (left rest : Option (List ℕ)) (text : List ℕ) (planned 
 two_of job left rest text planned lab run none (tells t p l) = absurd (plain_is_no_lab job text t run)
 two_of job left rest text planned lab run none (checks form answer is read t p l) = absurd (subst RunsLab is run)
 two_of job left rest text planned lab run none (audits end is reads p l) = absurd (subst RunsLab is run)
+two_of job left rest text planned lab run none (imports home is reads l) = absurd (subst RunsLab is run)
 two_of job left rest text planned lab run none (refuses lab_run why p l) = p
 two_of job left rest text planned lab run none (misses input view workers name is read unknown t p l) = p
 two_of job left rest text planned lab run none (runs bytes end lab_run gives is told ran p l) = absurd (none_or_some lab end none l)
@@ -399,6 +465,7 @@ came_by : (words : List (List ℕ)) (job : Job) (o n : Outside) (text : List ℕ
 came_by words job o n text planned status lab end ask some (tells t p l) w = absurd (none_or_some lab end l some)
 came_by words job o n text planned status lab end ask some (checks form answer is read t p l) w = absurd (none_or_some lab end l some)
 came_by words job o n text planned status lab end ask some (audits told is reads p l) w = absurd (none_or_some lab end l some)
+came_by words job o n text planned status lab end ask some (imports home is reads l) w = absurd (none_or_some lab end l some)
 came_by words job o n text planned status lab end ask some (refuses run why p l) w = absurd (none_or_some lab end l some)
 came_by words job o n text planned status lab end ask some (misses input view workers name is read none t p l) w = absurd (none_or_some lab end l some)
 came_by words job o n text planned status lab end ask some (runs bytes other run gives is told ran p l) w =
@@ -427,8 +494,8 @@ headline words o n status None ended = tt
 headline words o n status (Some end) ended = (came words o n status (Some end) end refl ended).ran
 
 pub no_run : (words : List (List ℕ)) (o n : Outside) (status : ℕ) (lab : Option Lab) → Ended words o n status lab
-    → AreRefused words ⊎ AskToMake words ⊎ ((form : Form) × AskToCheck words form) ⊎ AskToAudit words ⊎ ((line : List ℕ) × AskForLine words line)
-    → lab ≡ None
+    → AreRefused words ⊎ AskToMake words ⊎ ((form : Form) × AskToCheck words form) ⊎ AskToAudit words ⊎ ((home : Option ℕ) × AskToImport words home)
+    ⊎ ((line : List ℕ) × AskForLine words line) → lab ≡ None
 no_run words o n status None ended other = refl
 no_run words o n status (Some end) ended other =
     let c = came words o n status (Some end) end refl ended in absurd (no_lab words c.job c.ask other c.run)
@@ -515,6 +582,7 @@ some_by : (job : Job) (left rest : Option (List ℕ)) (text : List ℕ) (planned
 some_by job left rest text planned lab run is (tells t p l) = absurd (plain_is_no_lab job text t run)
 some_by job left rest text planned lab run is (checks form answer check read t p l) = absurd (subst RunsLab check run)
 some_by job left rest text planned lab run is (audits end audit reads p l) = absurd (subst RunsLab audit run)
+some_by job left rest text planned lab run is (imports home job_is reads l) = absurd (subst RunsLab job_is run)
 some_by job left rest text planned lab run is (refuses lab_run why p l) = absurd (false≢true (sym (ap is_of_run p) ∙ is))
 some_by job left rest text planned lab run is (misses input view workers name job_is read none t p l) = absurd (false≢true (sym (ap is_of_run p) ∙ is))
 some_by job left rest text planned lab run is (runs bytes end lab_run gives input told ran p l) = subst (λ found. IsSome found) (sym l) refl
@@ -564,6 +632,8 @@ failed_by words job left rest text planned lab ask (audits audit_ends.Yes is rea
     let zero : planned ≡ 0 = p in absurd (omega (arith, zero, nine))
 failed_by words job left rest text planned lab ask (audits audit_ends.No is reads p l) nine =
     let eight : planned ≡ 8 = p in absurd (omega (arith, eight, nine))
+failed_by words job left rest text planned lab ask (imports home is reads l) nine =
+    absurd (not_of_import 9 planned (omega arith) (of_import home left rest text planned reads) nine)
 failed_by words job left rest text planned lab ask (refuses run why p l) nine = absurd (omega (arith, p, nine))
 failed_by words job left rest text planned lab ask (misses input view workers name is read none t p l) nine = absurd (omega (arith, p, nine))
 failed_by words job left rest text planned lab ask (runs bytes end run gives is told ran p l) nine =
@@ -590,6 +660,8 @@ denied_by words job left rest text planned lab ask (checks form (Ok input) is re
 denied_by words job left rest text planned lab ask (checks form (Err bad) is read t p l) eight =
     let two : planned ≡ 2 = p in absurd (omega (arith, two, eight))
 denied_by words job left rest text planned lab ask (audits end is reads p l) eight = subst (Asks words) is ask
+denied_by words job left rest text planned lab ask (imports home is reads l) eight =
+    absurd (not_of_import 8 planned (omega arith) (of_import home left rest text planned reads) eight)
 denied_by words job left rest text planned lab ask (refuses run why p l) eight = absurd (omega (arith, p, eight))
 denied_by words job left rest text planned lab ask (misses input view workers name is read none t p l) eight = absurd (omega (arith, p, eight))
 denied_by words job left rest text planned lab ask (runs bytes end run gives is told ran p l) eight =

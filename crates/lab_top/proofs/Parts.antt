@@ -24,13 +24,16 @@ use Rattle.lab_top.specs.Views.{view_named, viewing}
 use Rattle.lab_audit.specs.Told.{IsRefusal, TellsOf, long_text, most_text}
 use Rattle.lab_audit.specs.declared.audited.AuditEnd.TheVariants as audit_ends
 use Rattle.lab_audit.specs.declared.audited.Told.{Told}
-use Rattle.lab_top.specs.Ends.{AreRefused, ReadsInput, ReadsText, audit_status, SaysWhy, TookBadInput, WritesText, unknown_text, not_built_text}
+use Rattle.lab_import.specs.Captures.{fault_line, IsFault, IsImported, most_capture}
+use Rattle.lab_import.specs.declared.capture.CaptureFault.{CaptureFault}
+use Rattle.lab_top.specs.Ends.{AreRefused, ReadsInput, ReadsText, ReadsCapture, SaysImport, audit_status, SaysWhy, TookBadInput, WritesText}
+use Rattle.lab_top.specs.Ends.{long_capture, unknown_text, not_built_text}
 use Rattle.lab_top.specs.declared.finish.Finish.{Finish}
 use Rattle.lab_top.specs.declared.finish.InputStop.{InputStop}
 use Rattle.lab_top.specs.declared.finish.InputStop.TheVariants as stops
 use Rattle.lab_top.specs.Cases.{Outside, TookWhole, RefusesInput, GivesNoInput, stop_with, ReadsOrStops, AnswersOrStops, WritesOr, FailsUnread, FindsNone}
 use Rattle.lab_top.specs.Cases.{BuiltOr, EndsAudit, EndsRun, EndsUnbuilt, StopsFor}
-use Rattle.lab_top.specs.Cases.{ReadsSource, RunsLab, plain_text, Gives, Tells, job_status, Cause, tells, checks, audits, refuses, misses, runs}
+use Rattle.lab_top.specs.Cases.{ReadsSource, RunsLab, plain_text, Gives, Tells, job_status, Cause, tells, checks, audits, imports, refuses, misses, runs}
 use Rattle.lab_top.specs.Cases.{Did, wrote, unread, DidOr, Ended, refused, did, EndsOr}
 use Rattle.lab_top.proofs.Asking.{refuses_of, gives_of}
 
@@ -148,6 +151,30 @@ pub long_audited : (o n : Outside) (told : Told) (finish : Finish) → TookSome 
     → (told.text ≡ long_text) × (told.end ≡ audit_ends.NoJournal)
     → EndsAudit told o.write_faults n.write_faults o.written n.written finish → Did jobs.Audit o n finish.status finish.lab
 long_audited o n told finish some is = audited_ends o n told finish (record { bytes = some.0; took = some.2; says = inr (some.1, is.0, is.1) })
+
+-- a capture that was imported, or its fault
+whole_read : (home : Option ℕ) (before after : Option (List ℕ)) (octets text : List ℕ) (planned : ℕ) → Took before after octets
+    → length octets ≤ most_capture → IsAtEnd after → SaysImport home octets text planned → ReadsCapture home before after text planned
+whole_read home before after octets text planned took few end says = record { octets = octets; took = took; says = inl (end, few, says) }
+
+pub imported_ends : (home : Option ℕ) (o n : Outside) (octets text : List ℕ) (status : ℕ) (lab : Option Lab) → Took o.left n.left octets
+    → length octets ≤ most_capture → IsAtEnd n.left → IsImported home octets text → lab ≡ None
+    → WritesText text 0 o.write_faults n.write_faults o.written n.written status → Did (jobs.Import home) o n status lab
+imported_ends home o n octets text status lab took few end is none w =
+    wrote text 0 (imports home refl (whole_read home o.left n.left octets text 0 took few end (inl (is, refl))) none) w
+
+pub fault_ends : (home : Option ℕ) (o n : Outside) (octets : List ℕ) (fault : CaptureFault) (result : Result Finish NoMemory) → Took o.left n.left octets
+    → length octets ≤ most_capture → IsAtEnd n.left → IsFault home octets fault
+    → WritesOr (fault_line fault) 2 o.write_faults n.write_faults o.written n.written result → DidOr (jobs.Import home) o n result
+fault_ends home o n octets fault result took few end is w =
+    let reads = whole_read home o.left n.left octets (fault_line fault) 2 took few end (inr (fault, is, refl, refl)) in
+    written_ends (jobs.Import home) o n (fault_line fault) 2 result (λ lab none. imports home refl reads none) w
+
+pub long_imported : (home : Option ℕ) (o n : Outside) (result : Result Finish NoMemory) → TookSome o.left n.left (λ n. most_capture < n)
+    → WritesOr long_capture 2 o.write_faults n.write_faults o.written n.written result → DidOr (jobs.Import home) o n result
+long_imported home o n result some w =
+    let reads : ReadsCapture home o.left n.left long_capture 2 = record { octets = some.0; took = some.2; says = inr (some.1, refl, refl) } in
+    written_ends (jobs.Import home) o n long_capture 2 result (λ lab none. imports home refl reads none) w
 
 -- an input that hasn't what a view names
 pub unknown_ends : (view : ViewName) (workers : ℕ) (o n : Outside) (input : LabInput) (name text : List ℕ) (status : ℕ) (lab : Option Lab)

@@ -26,7 +26,7 @@ use Rattle.lab_top.specs.Views.{view_named, ShowsView, viewing}
 use Rattle.lab_audit.specs.Told.{IsRefusal}
 use Rattle.lab_audit.specs.declared.audited.AuditEnd.{AuditEnd}
 use Rattle.lab_audit.specs.declared.audited.Told.{Told}
-use Rattle.lab_top.specs.Ends.{AreRefused, ReadsInput, ReadsText, SaysWhy, TookBadInput, unknown_text, not_built_text, WritesText, SaysVerdict}
+use Rattle.lab_top.specs.Ends.{AreRefused, ReadsInput, ReadsText, ReadsCapture, SaysWhy, TookBadInput, unknown_text, not_built_text, WritesText, SaysVerdict}
 use Rattle.lab_top.specs.Ends.{audit_status, end_status, tested_status, verdict_status}
 
 -- what the source and the sink tell
@@ -112,11 +112,6 @@ EndsUnbuilt faults_before faults_after before after finish =
 abbrev pub EndsAudit : Told → (faults_before faults_after : ℕ) → (before after : Option (List ℕ)) → Finish → Type 0
 EndsAudit told faults_before faults_after before after finish =
     (finish.lab ≡ None) × WritesText told.text (audit_status told.end) faults_before faults_after before after finish.status
-
--- What is said of a capture, and its status.
-abbrev pub EndsImport : (text : List ℕ) → (planned : ℕ) → (faults_before faults_after : ℕ) → (before after : Option (List ℕ)) → Finish → Type 0
-EndsImport text planned faults_before faults_after before after finish =
-    (finish.lab ≡ None) × WritesText text planned faults_before faults_after before after finish.status
 
 -- A job ends whose source gave no input.
 abbrev pub StopsFor : InputStop → (faults_before faults_after : ℕ) → (before after : Option (List ℕ)) → Result Finish NoMemory → Type 0

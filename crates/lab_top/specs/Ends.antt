@@ -24,7 +24,7 @@ use Rattle.journal_form.specs.Journals.{journal_text}
 use Rattle.lab_capture.specs.Captures.{IsLabCapture}
 use Rattle.lab_import.specs.Captures.{fault_line, IsFault, IsImported, most_capture}
 use Rattle.lab_import.specs.declared.capture.CaptureFault.{CaptureFault}
-use Rattle.lab_import.specs.declared.capture.CaptureFault.TheVariants.{Form}
+use Rattle.lab_import.specs.declared.capture.CaptureFault.TheVariants as capture_faults
 use Rattle.expect_view.specs.Expect.{all_hold, test_status}
 use Rattle.lab_top.specs.declared.views.ViewName.{ViewName}
 use Rattle.lab_top.specs.Forms.{accepted_in, IsReportIn}
@@ -154,7 +154,7 @@ TookNoJournal words before after text = AskToAudit words × ReadsText before aft
 
 -- what is said of a capture with more octets than one may have
 abbrev pub long_capture : List ℕ
-long_capture = fault_line (Form most_capture)
+long_capture = fault_line (capture_faults.Form most_capture)
 
 -- The text is the laboratory that is imported from these octets, or the line for their fault; and this is its status.
 abbrev pub SaysImport : (home : Option ℕ) → List ℕ → (text : List ℕ) → (status : ℕ) → Type 0

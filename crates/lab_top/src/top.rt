@@ -1,6 +1,6 @@
 //! The program's top call.
 
-ghost use Rattle.std.specs.Prelude.{◌≡◌, ◌⊎◌, ℕ, List, None, IsSome, IsSomeAnd, IfSome, OnSome};
+ghost use Rattle.std.specs.Prelude.{◌≡◌, ◌⊎◌, ℕ, List, Option, None, IsSome, IsSomeAnd, IfSome, OnSome};
 ghost use Rattle.graft_edge.specs.Outside.{FaultRose, Appended, AppendedFront};
 ghost use Rattle.lab_words.specs.declared.job.Form.{Form};
 ghost use Rattle.lab_words.specs.declared.job.Job.TheVariants.{Make};
@@ -11,15 +11,18 @@ ghost use Rattle.lab_input.specs.Labs.{InputOf};
 ghost use Rattle.lab_run.specs.Runs.{RanLab};
 ghost use Rattle.lab_top.specs.Forms.{summary_in, test_in};
 ghost use Rattle.lab_top.specs.declared.views.ViewName.{ViewName};
-ghost use Rattle.lab_top.specs.Ends.{AreRefused, AskToCheck, AskToRun, AskForJournal, AskForCapture, AskToAudit, AskToImport, AskToTest, AskToView, RunsSource, AskToSum, AskToDrill, AskForLab};
-ghost use Rattle.lab_top.specs.Ends.{AskToMake, AskForLine, AskUnread, TookInput, GaveBadInput, IsStatus, WritesText, WritesReport, WritesJournal, WritesCapture, WritesView};
+ghost use Rattle.lab_top.specs.Ends.{AreRefused, AskToCheck, AskToRun, AskForJournal, AskForCapture, AskToAudit, AskToImport, AskToTest, AskToView};
+ghost use Rattle.lab_top.specs.Ends.{RunsSource, AskToSum, AskToDrill, AskForLab, AskToMake, AskForLine, AskUnread, TookInput, GaveBadInput, IsStatus};
+ghost use Rattle.lab_top.specs.Ends.{WritesText, WritesReport, WritesJournal, WritesCapture, WritesView};
 ghost use Rattle.lab_top.specs.Ends.{Audits, Checks, Imports, end_status, tested_status, HasFailed};
 ghost use Rattle.lab_top.specs.Cases.{outside, ReadsSource, DidOr, EndsOr, Ended};
 
 use crate::audit::audit_job;
 use crate::finish::{DONE, Finish, NO_MEMORY, USAGE, end_with, without_run};
 use crate::imports::import_job;
-use crate::jobs::{capture_job, check_job, drill_job, journal_job, make_job, run_job, test_job, view_job};
+use crate::jobs::{
+    capture_job, check_job, drill_job, journal_job, make_job, run_job, test_job, view_job,
+};
 use crate::views::ViewName;
 use graft_edge::{Gate, NoMemory, Sink, Source, Words};
 use lab_words::{Job, USAGE_TEXT, VERSION_TEXT, WordStop, read_words, refused_text};
@@ -123,8 +126,9 @@ fn finish_of<R: Threads + Sync + AllocGlobal, S: Source, K: Sink, G: Gate>(
 
 /// Does what the words of a command ask for. `run` reads an input from the source to its end, runs it and
 /// writes the report to the sink; each actor's turn passes the gate first. `journal` writes the input and the
-/// journal of its run in place of a report, `capture` a pcap file of what taps at the links of its remotes see, `show`,
-/// `timeline`, `why`, `story` and `picture` write a view of it, and `test` writes which expectations of the input hold of it. `check` reads an input and writes whether it is one.
+/// journal of its run in place of a report, `capture` a pcap file of what taps at the links of its remotes see,
+/// `show`, `timeline`, `why`, `story` and `picture` write a view of it, and `test` writes which expectations of the
+/// input hold of it. `check` reads an input and writes whether it is one.
 /// `audit` reads such a text of an input and a journal, and writes whether some run has that journal. `import` reads a
 /// capture of sessions, pcap or pcapng, and writes the laboratory that has them.
 /// With `--json` what `check`, `run`, `drill`, `show`, `timeline`, `why` and `test` write is one JSON object.

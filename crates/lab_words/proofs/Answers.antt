@@ -6,7 +6,8 @@ use Rattle.clap.specs.declared.error.kind.ErrorKind.{ErrorKind}
 use Rattle.clap.proofs.OnLiterals.{clap_on_literals}
 use Rattle.bgp_types.specs.Finds.{Finds}
 use Rattle.lab_words.specs.declared.job.Job.{Job}
-use Rattle.lab_words.specs.declared.job.Job.TheVariants.{Run, Check, Make, Drill, Journal, Audit, Capture, Timeline, Show, Story, Why, Picture, Test, Help, Version}
+use Rattle.lab_words.specs.declared.job.Job.TheVariants.{Run, Check, Make, Drill, Journal, Audit, Capture, Import, Timeline, Show, Story, Why, Picture, Test}
+use Rattle.lab_words.specs.declared.job.Job.TheVariants.{Help, Version}
 use Rattle.lab_words.specs.declared.job.WordStop.{WordStop}
 use Rattle.lab_words.specs.declared.job.WordStop.TheVariants.{Usage}
 use Rattle.lab_words.specs.Asked.{line_of, faults_of, name_of, several, IsSeed, IsWorkersText, IsReadAs, AskInLine, Asks, AreFew, IsSmall, HasNumbers}
@@ -78,6 +79,7 @@ numbers_in_line line (Drill seed workers form) is = (small _ _ seed is.1.1.1.as_
 numbers_in_line line (Journal workers) is = few _ _ workers is.1.1.1.as_workers is.1.1.2.0.2
 numbers_in_line line Audit is = tt
 numbers_in_line line (Capture workers) is = few _ _ workers is.1.1.1.as_workers is.1.1.2.0.2
+numbers_in_line line (Import home) is = tt
 numbers_in_line line (Timeline workers form) is = few _ _ workers is.1.1.1.as_workers is.1.1.2.0.2
 numbers_in_line line (Show workers form) is = few _ _ workers is.1.1.1.as_workers is.1.1.2.0.2
 numbers_in_line line (Story peering workers) is = few _ _ workers is.1.1.1.as_workers is.1.1.2.2

@@ -1,6 +1,6 @@
 -- The job that is read is the one that is given.
 use Rattle.std.proofs.Common.{◌≡◌, ℕ, ◌+◌, [], ◌∷◌, ap, sym, ◌∙◌, refl, arith, codes, subst}
-use Rattle.std.specs.Prelude.{Bool, true, false, if◌then◌else◌, Option, Some, None, option_map, IfSome, Err}
+use Rattle.std.specs.Prelude.{Bool, true, false, if◌then◌else◌, Option, Some, None, is_some, option_map, IfSome, Err}
 use Rattle.std.specs.Bool.{Decides}
 use Rattle.std.specs.Str.{bytes_eq}
 use Rattle.std.proofs.lemmas.Slice.Eq.{bytes_eq-Decides}
@@ -9,15 +9,18 @@ use Rattle.bgp_types.specs.Finds.{Finds}
 use Rattle.bgp_types.specs.Prefixes.{PrefixValue}
 use Rattle.bgp_types.specs.Texts.{IsPrefixText}
 use Rattle.bgp_types.proofs.PrintedTexts.{IsPrefixText_unique}
+use Rattle.bgp_types.proofs.TextLemmas.{IsAddressText_unique}
 use Rattle.lab_words.specs.declared.arguments.Arguments.{Arguments}
 use Rattle.lab_words.specs.declared.job.Form.{Form}
 use Rattle.lab_words.specs.declared.job.Form.TheVariants.{Plain, Json}
 use Rattle.lab_words.specs.declared.job.Job.{Job}
-use Rattle.lab_words.specs.declared.job.Job.TheVariants.{Run, Check, Make, Drill, Journal, Audit, Capture, Timeline, Show, Story, Why, Picture, Test, Help, Version}
+use Rattle.lab_words.specs.declared.job.Job.TheVariants.{Run, Check, Make, Drill, Journal, Audit, Capture, Import, Timeline, Show, Story, Why, Picture, Test}
+use Rattle.lab_words.specs.declared.job.Job.TheVariants.{Help, Version}
 use Rattle.lab_words.specs.declared.job.WordStop.{WordStop}
 use Rattle.lab_words.specs.declared.job.WordStop.TheVariants.{Usage, NoMemory}
-use Rattle.lab_words.specs.Asked.{given_by, IsSeed, IsWorkersText, IsReadAs, AreArguments, name_of, several, HasArguments, IsJob}
-use Rattle.lab_words.specs.Reading.{Answers, unless, plain, workers_alone, check_with, audit_with, make_with, drill_with, story_with, why_with, job_named}
+use Rattle.lab_words.specs.Asked.{given_by, IsSeed, IsAddress, IsWorkersText, IsReadAs, AreArguments, name_of, several, HasArguments, IsJob}
+use Rattle.lab_words.specs.Reading.{Answers, unless, plain, workers_alone, check_with, audit_with, home_with, import_with}
+use Rattle.lab_words.specs.Reading.{make_with, drill_with, story_with, why_with, job_named}
 
 -- ---- what is read is what is taken, row by row
 
@@ -62,6 +65,23 @@ audit_fits given =
     plain_so P given.form (audit_with given.subject given.prefix given.workers)
     (λ f. unless_so P given.subject (unless given.prefix (unless given.workers audit))
     (λ s. unless_so P given.prefix (unless given.workers audit) (λ p. unless_so P given.workers audit (λ w. (refl, (s, p, w, f))))))
+
+-- nothing is given, or an address
+home_given : (subject : Option Text) (address home : Option ℕ) → home_with subject address ≡ Some home → (home ≡ address) × (is_some subject ≡ is_some address)
+home_given None None home is = let e : home ≡ None = cc in (e, refl)
+home_given None (Some a) home is = absurd (let e : ⊥ = cc in e)
+home_given (Some text) None home is = absurd (let e : ⊥ = cc in e)
+home_given (Some text) (Some a) home is = let e : home ≡ Some a = cc in (e, refl)
+
+import_fits : (given : Arguments)
+    → IfSome (plain given.form (import_with given.subject given.address given.prefix given.workers)) (Fits (codes "import") given)
+import_fits given =
+    let P = Fits (codes "import") given in
+    let home = home_with given.subject given.address in
+    plain_so P given.form (import_with given.subject given.address given.prefix given.workers)
+    (λ f. unless_so P given.prefix (unless given.workers (option_map Import home))
+    (λ p. unless_so P given.workers (option_map Import home)
+    (λ w. map_so P Import home (λ h is. (refl, (home_given given.subject given.address h is, p, w, f))))))
 
 make_fits : (given : Arguments) → IfSome (plain given.form (make_with given.seed given.prefix given.workers)) (Fits (codes "make") given)
 make_fits given =
@@ -124,14 +144,21 @@ named_fits name given =
     (row name (codes "journal") given _ _ (plain_fits (codes "journal") given Journal (λ s p f. (refl, ((s, p, refl), f))))
     (row name (codes "audit") given _ _ (audit_fits given)
     (row name (codes "capture") given _ _ (plain_fits (codes "capture") given Capture (λ s p f. (refl, ((s, p, refl), f))))
+    (row name (codes "import") given _ _ (import_fits given)
     (row name (codes "timeline") given _ _ (formed_fits (codes "timeline") given Timeline (λ s p. (refl, ((s, p, refl), refl))))
     (row name (codes "show") given _ _ (formed_fits (codes "show") given Show (λ s p. (refl, ((s, p, refl), refl))))
     (row name (codes "story") given _ _ (story_fits given)
     (row name (codes "why") given _ _ (why_fits given)
     (row name (codes "picture") given _ _ (plain_fits (codes "picture") given Picture (λ s p f. (refl, ((s, p, refl), f))))
-    (row name (codes "test") given _ None (formed_fits (codes "test") given Test (λ s p. (refl, ((s, p, refl), refl)))) tt))))))))))))
+    (row name (codes "test") given _ None (formed_fits (codes "test") given Test (λ s p. (refl, ((s, p, refl), refl)))) tt)))))))))))))
 
 -- ---- each job is read by its name: no row before its own has that name
+
+home_read : (subject : Option Text) (address : Option ℕ) → is_some subject ≡ is_some address → home_with subject address ≡ Some address
+home_read None None same = refl
+home_read None (Some a) same = absurd (let e : ⊥ = cc in e)
+home_read (Some text) None same = absurd (let e : ⊥ = cc in e)
+home_read (Some text) (Some a) same = refl
 
 pub read_by_name : (given : Arguments) (job : Job) → HasArguments given job → job_named (name_of job) given ≡ Some job
 read_by_name given (Run workers form) has = rw (has.0.0, has.0.1, has.0.2, has.1) refl
@@ -141,6 +168,7 @@ read_by_name given (Drill seed workers form) has = rw (has.0, has.1, has.2, has.
 read_by_name given (Journal workers) has = rw (has.0.0, has.0.1, has.0.2, has.1) refl
 read_by_name given Audit has = rw (has.0, has.1, has.2, has.3) refl
 read_by_name given (Capture workers) has = rw (has.0.0, has.0.1, has.0.2, has.1) refl
+read_by_name given (Import home) has = rw (has.1, has.2, has.3, home_read given.subject given.address has.0.1, has.0.0) refl
 read_by_name given (Timeline workers form) has = rw (has.0.0, has.0.1, has.0.2, has.1) refl
 read_by_name given (Show workers form) has = rw (has.0.0, has.0.1, has.0.2, has.1) refl
 read_by_name given (Story peering workers) has = rw (has.0, has.1, has.2, has.3) refl
@@ -152,12 +180,19 @@ read_by_name given Version has = absurd has
 
 -- ---- texts are read as one list of arguments
 
-same_seed : (text : Option Text) (a b : Option ℕ) → Finds (IsSeed text) a → Finds (IsSeed text) b → a ≡ b
-same_seed text None None is also = refl
-same_seed text None (Some n) is also = absurd (is n also)
-same_seed text (Some n) None is also = absurd (also n is)
-same_seed None (Some n) (Some m) is also = absurd is
-same_seed (Some text) (Some n) (Some m) is also = ap Some (sym is.value ∙ also.value)
+same_found : {A : Type 0} (Is : A → Type 0) → ((x y : A) → Is x → Is y → x ≡ y) → (a b : Option A) → Finds Is a → Finds Is b → a ≡ b
+same_found Is one None None is also = refl
+same_found Is one None (Some y) is also = absurd (is y also)
+same_found Is one (Some x) None is also = absurd (also x is)
+same_found Is one (Some x) (Some y) is also = ap Some (one x y is also)
+
+one_seed : (text : Option Text) (x y : ℕ) → IsSeed text x → IsSeed text y → x ≡ y
+one_seed None x y is also = absurd is
+one_seed (Some text) x y is also = sym is.value ∙ also.value
+
+one_address : (text : Option Text) (x y : ℕ) → IsAddress text x → IsAddress text y → x ≡ y
+one_address None x y is also = absurd is
+one_address (Some text) x y is also = IsAddressText_unique text x y is also
 
 same_read : {A : Type 0} (Is : Text → A → Type 0) → ((text : Text) (x y : A) → Is text x → Is text y → x ≡ y) → (text : Option Text) (a b : Option A)
     → IsReadAs Is text a → IsReadAs Is text b → a ≡ b
@@ -176,20 +211,22 @@ one_number text x y is also =
     let same : 48 + x ≡ 48 + y = head_is (48 + x) (48 + y) (sym is.2 ∙ also.2) in
     omega arith
 
-abbrev arguments : Option Text → Option ℕ → Option PrefixValue → Option ℕ → Form → Arguments
-arguments subject seed prefix workers form = record { subject = subject; seed = seed; prefix = prefix; workers = workers; form = form }
+abbrev arguments : Option Text → (seed address : Option ℕ) → Option PrefixValue → Option ℕ → Form → Arguments
+arguments subject seed address prefix workers form =
+    record { subject = subject; seed = seed; address = address; prefix = prefix; workers = workers; form = form }
 
 same_arguments : (subject prefix workers json : Option Text) (a b : Arguments) → AreArguments subject prefix workers json a
     → AreArguments subject prefix workers json b → a ≡ b
 same_arguments subject prefix workers json a b is also =
     let s : a.subject ≡ b.subject = is.as_subject ∙ sym also.as_subject in
-    let n : a.seed ≡ b.seed = same_seed subject a.seed b.seed is.as_seed also.as_seed in
+    let n : a.seed ≡ b.seed = same_found (IsSeed subject) (one_seed subject) a.seed b.seed is.as_seed also.as_seed in
+    let h : a.address ≡ b.address = same_found (IsAddress subject) (one_address subject) a.address b.address is.as_address also.as_address in
     let p : a.prefix ≡ b.prefix = same_read IsPrefixText IsPrefixText_unique prefix a.prefix b.prefix is.as_prefix also.as_prefix in
     let w : a.workers ≡ b.workers = same_read IsWorkersText one_number workers a.workers b.workers is.as_workers also.as_workers in
     let f : a.form ≡ b.form = is.as_form ∙ sym also.as_form in
-    ap (λ x. arguments x a.seed a.prefix a.workers a.form) s ∙ ap (λ x. arguments b.subject x a.prefix a.workers a.form) n
-    ∙ ap (λ x. arguments b.subject b.seed x a.workers a.form) p ∙ ap (λ x. arguments b.subject b.seed b.prefix x a.form) w
-    ∙ ap (λ x. arguments b.subject b.seed b.prefix b.workers x) f
+    ap (λ x. arguments x a.seed a.address a.prefix a.workers a.form) s ∙ ap (λ x. arguments b.subject x a.address a.prefix a.workers a.form) n
+    ∙ ap (λ x. arguments b.subject b.seed x a.prefix a.workers a.form) h ∙ ap (λ x. arguments b.subject b.seed b.address x a.workers a.form) p
+    ∙ ap (λ x. arguments b.subject b.seed b.address b.prefix x a.form) w ∙ ap (λ x. arguments b.subject b.seed b.address b.prefix b.workers x) f
 
 -- ---- the job of what is given
 

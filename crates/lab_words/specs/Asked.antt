@@ -10,12 +10,14 @@ use Rattle.lab_words.specs.declared.arguments.Arguments.{Arguments}
 use Rattle.lab_words.specs.declared.job.Form.{Form}
 use Rattle.lab_words.specs.declared.job.Form.TheVariants.{Plain, Json}
 use Rattle.lab_words.specs.declared.job.Job.{Job}
-use Rattle.lab_words.specs.declared.job.Job.TheVariants.{Run, Check, Make, Drill, Journal, Audit, Capture, Import, Timeline, Show, Story, Why, Picture, Test, Help, Version}
+use Rattle.lab_words.specs.declared.job.Job.TheVariants.{Run, Check, Make, Drill, Journal, Audit, Capture, Import, Timeline, Show, Story, Why, Picture, Test}
+use Rattle.lab_words.specs.declared.job.Job.TheVariants.{Help, Version}
 
 -- the usage line of the program
 abbrev pub usage_text : List ℕ
 usage_text =
-    codes "usage: graftlab run|check|make N|drill N|journal|audit|capture|import [HOME]|show|timeline|why ROUTER PREFIX|story PEERING|picture|test [--workers W] [--json]" ++ 10 ∷ []
+    codes "usage: graftlab run|check|make N|drill N|journal|audit|capture|import [HOME]"
+    ++ codes "|show|timeline|why ROUTER PREFIX|story PEERING|picture|test [--workers W] [--json]" ++ 10 ∷ []
 
 -- the version line of the program
 abbrev pub version_text : List ℕ

@@ -79,4 +79,5 @@ job_named name given =
     else (if bytes_eq name (codes "story") then plain given.form (story_with given.subject given.prefix given.workers)
     else (if bytes_eq name (codes "why") then why_with given.subject given.prefix given.workers given.form
     else (if bytes_eq name (codes "picture") then plain given.form (option_map Picture (workers_alone given.subject given.prefix given.workers))
-    else (if bytes_eq name (codes "test") then option_map (λ w. Test w given.form) (workers_alone given.subject given.prefix given.workers) else None)))))))))))))
+    else (if bytes_eq name (codes "test") then option_map (λ w. Test w given.form) (workers_alone given.subject given.prefix given.workers)
+    else None)))))))))))))

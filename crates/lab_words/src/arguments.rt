@@ -3,11 +3,11 @@
 ghost use Rattle.std.specs.Prelude.{◌≡◌, ◌↔◌, IsTrue, IfOk, option_map, slice_index};
 ghost use Rattle.bgp_types.specs.Finds.{Finds};
 ghost use Rattle.bgp_types.specs.Texts.{IsPrefixText};
-ghost use Rattle.lab_words.specs.Asked.{form_of, AreArguments, IsReadAs, IsSeed, IsSeedText, IsWorkersText};
+ghost use Rattle.lab_words.specs.Asked.{form_of, AreArguments, IsAddress, IsReadAs, IsSeed, IsSeedText, IsWorkersText};
 ghost use Rattle.lab_words.specs.Reading.{Answers, workers_of};
 
 use crate::job::{Form, WordStop};
-use bgp_types::{Prefix, read_prefix};
+use bgp_types::{Prefix, read_address, read_prefix};
 use graft_edge::{Name, NoMemory};
 use std::alloc::Global;
 
@@ -72,6 +72,16 @@ fn seed_in(text: Option<&str>) -> Option<u32>
     }
 }
 
+/// Returns the address that is given, if one is.
+fn address_in(text: Option<&str>) -> Option<u32>
+    ensures { Finds (IsAddress (option_map (λ s. s.now) text.entry)) result }
+{
+    match text {
+        Some(text) => read_address(text),
+        None => None,
+    }
+}
+
 /// Returns the prefix that is given, if there is a text and it writes one; a text that writes none can't be read.
 fn prefix_in(text: Option<&str>) -> Option<Option<Prefix>>
     ensures { Finds (IsReadAs IsPrefixText (option_map (λ s. s.now) text.entry)) result }
@@ -130,6 +140,7 @@ pub(crate) fn arguments_in(
         (option_map (λ s. s.now) workers.entry) (option_map (λ s. s.now) json.entry)) result }
 {
     let seed = seed_in(subject);
+    let address = address_in(subject);
     let Some(prefix) = prefix_in(prefix) else {
         return Err(WordStop::Usage);
     };
@@ -140,6 +151,7 @@ pub(crate) fn arguments_in(
         Ok(subject) => Ok(Arguments {
             subject,
             seed,
+            address,
             prefix,
             workers,
             form: form_of(json),

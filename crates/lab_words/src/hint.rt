@@ -19,7 +19,8 @@ const WORKERS_AND_JSON: &str =
 
 /// Which jobs there are.
 const JOBS_TEXT: &str =
-    "the first word is a job: run check make drill journal audit capture import show timeline why story picture test; an input comes on standard input: graftlab run < lab.toml";
+    "the first word is a job: run check make drill journal audit capture import show timeline why story picture test; \
+     an input comes on standard input: graftlab run < lab.toml";
 
 /// Returns what the job of a name takes, if there is one.
 fn form_of(name: &str) -> Option<&'static str>
@@ -61,8 +62,8 @@ fn meant_by(alloc: Global, word: &str) -> Result<Option<&'static str>, NoMemory>
     ensures { IfOk result (λ near. option_map (λ name. name.now) near ≡ nearest_lem job_names word.now) }
 {
     let names = [
-        "run", "check", "make", "drill", "journal", "audit", "capture", "import", "show", "timeline",
-        "why", "story", "picture", "test",
+        "run", "check", "make", "drill", "journal", "audit", "capture", "import", "show",
+        "timeline", "why", "story", "picture", "test",
     ];
     nearest(alloc, &names, word)
 }

@@ -101,7 +101,8 @@ pub enum WordStop {
 
 /// The usage line of the program.
 pub const USAGE_TEXT: &str =
-    "usage: graftlab run|check|make N|drill N|journal|audit|capture|import [HOME]|show|timeline|why ROUTER PREFIX|story PEERING|picture|test [--workers W] [--json]\n";
+    "usage: graftlab run|check|make N|drill N|journal|audit|capture|import [HOME]\
+     |show|timeline|why ROUTER PREFIX|story PEERING|picture|test [--workers W] [--json]\n";
 
 /// The version line of the program.
 pub const VERSION_TEXT: &str = "graftlab 0.1.0\n";

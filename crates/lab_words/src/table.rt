@@ -2,7 +2,8 @@
 
 ghost use Rattle.std.specs.Prelude.{◌≡◌, option_map};
 ghost use Rattle.lab_words.specs.Asked.{IsJob, given_by};
-ghost use Rattle.lab_words.specs.Reading.{Answers, plain, workers_alone, check_with, audit_with, home_with, import_with, make_with, drill_with, story_with, why_with, job_named};
+ghost use Rattle.lab_words.specs.Reading.{Answers, plain, workers_alone, check_with, audit_with, home_with, import_with};
+ghost use Rattle.lab_words.specs.Reading.{make_with, drill_with, story_with, why_with, job_named};
 
 use crate::arguments::{Arguments, arguments_in};
 use crate::job::{Form, Job, WordStop};

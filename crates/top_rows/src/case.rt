@@ -3,6 +3,7 @@
 /// A command: `graftlab WORD.. < INPUT ! read N write N`. The input is a file, `N empty lines`, or an input that leads
 /// to a limit: `a stream past its limit` or `a full journal`. It may be left out, and so may the numbers of the calls,
 /// counted from 1, at which the source and the sink fail. The word `*` stands for each of several numbers of workers.
+/// A file whose name ends with `.hex` has the octets of the input in hexadecimal.
 #[derive(Clone, Copy)]
 pub struct Case<'a> {
     pub words: &'a str,
@@ -71,6 +72,11 @@ impl<'a> Case<'a> {
     pub fn empty_lines(&self) -> Option<u32> {
         let number = self.input.strip_suffix(" empty lines")?;
         number.parse::<u32>().ok()
+    }
+
+    /// Returns whether the file of the input has its octets in hexadecimal.
+    pub fn is_in_hex(&self) -> bool {
+        self.input.ends_with(".hex")
     }
 
     /// Returns the limit to which the input leads, if it is made for one.

@@ -3,12 +3,13 @@
 use crate::case::{Case, Shown};
 use crate::gate::CountingGate;
 use crate::limits::push_end;
-use crate::seen::{push_seen, push_told};
+use crate::seen::{push_octets, push_seen, push_told};
 use graft_edge::{MemSink, MemSource, NoMemory, Words};
 use lab_report::Lab;
 use lab_top::{Finish, graft_main};
 use std::alloc::Global;
 use std::fmt::Write;
+use std::str;
 use std::thread::Threads;
 
 /// Returns the words after the program's name, separated by single spaces, with the number of workers in place of `*`.
@@ -31,10 +32,17 @@ fn finish_of<R: Threads + Sync + AllocGlobal>(
     graft_main(rt, words, source, sink, gate)
 }
 
-/// Returns what a command wrote, on lines of its own.
+/// Returns what a command wrote, on lines of its own: octets that are no text in hexadecimal.
 fn written_text(alloc: Global, written: &[u8]) -> Result<String, NoMemory> {
-    let mut text = String::from_utf8_lossy(alloc, written)?;
-    if !written.is_empty() && !written.ends_with(b"\n") {
+    let mut text = String::new(alloc);
+    match str::from_utf8(written) {
+        Ok(lines) => text.push_str(lines)?,
+        Err(_) => {
+            text.push_str("octets:")?;
+            push_octets(&mut text, written)?;
+        }
+    }
+    if !text.is_empty() && !text.ends_with("\n") {
         text.push_str("\n")?;
     }
     Ok(text)
@@ -104,11 +112,11 @@ pub fn end_of<R: Threads + Sync + AllocGlobal>(
     rt: &R,
     case: &Case<'_>,
     workers: &str,
-    input: &str,
+    input: &[u8],
 ) -> Result<String, NoMemory> {
     let alloc = rt.alloc();
     let words = words_of(alloc, case.words, workers)?;
-    let mut source = MemSource::new(alloc, input.as_bytes(), 64, &[case.read_fails])?;
+    let mut source = MemSource::new(alloc, input, 64, &[case.read_fails])?;
     let mut sink = MemSink::new(alloc, case.room(), 16, &[case.write_fails])?;
     let gate = CountingGate::new();
     let finish = finish_of(rt, &words, &mut source, &mut sink, &gate);

@@ -13,13 +13,14 @@ use crate::case::Case;
 use crate::end::end_of;
 use crate::limits::input_to;
 use anyhow::Result;
+use std::alloc::Global;
 use std::fmt::Write;
 use std::rt::Files;
 use std::thread::Threads;
 use std::{fs, io};
 
 /// Returns the text of a case's input: none, empty lines, one that leads to a limit, or a file.
-fn input_of<R: Files + AllocGlobal>(rt: &R, case: &Case<'_>) -> Result<String> {
+fn text_of<R: Files + AllocGlobal>(rt: &R, case: &Case<'_>) -> Result<String> {
     if let Some(lines) = case.empty_lines() {
         return Ok("\n".repeat(rt.alloc(), lines as usize)?);
     }
@@ -32,12 +33,30 @@ fn input_of<R: Files + AllocGlobal>(rt: &R, case: &Case<'_>) -> Result<String> {
     }
 }
 
+/// Returns the octets that a text has in hexadecimal, with white space between them.
+fn octets_in(alloc: Global, text: &str) -> Result<Vec<u8>> {
+    let mut digits = String::new(alloc);
+    for word in text.split_whitespace() {
+        digits.push_str(word)?;
+    }
+    Ok(hex::decode(alloc, digits)?)
+}
+
+/// Returns a case's input.
+fn input_of<R: Files + AllocGlobal>(rt: &R, case: &Case<'_>) -> Result<Vec<u8>> {
+    let text = text_of(rt, case)?;
+    if case.is_in_hex() {
+        return octets_in(rt.alloc(), text.as_str());
+    }
+    Ok(text.into_bytes())
+}
+
 /// Returns how a case ends. If it is run by 1, 2, 4 and 8 workers, it must end in the same way each time; each other
 /// end is printed.
 fn ends_of<R: Threads + Sync + AllocGlobal>(
     rt: &R,
     case: &Case<'_>,
-    input: &str,
+    input: &[u8],
 ) -> Result<String> {
     let end = end_of(rt, case, "1", input)?;
     if !case.is_by_each() {
@@ -64,7 +83,7 @@ fn main(rt: HostRuntime) -> Result<()> {
         }
         let case = Case::of(line);
         let input = input_of(&rt, &case)?;
-        let ends = ends_of(&rt, &case, input.as_str())?;
+        let ends = ends_of(&rt, &case, &input)?;
         println!(rt; "{ends}")?;
     }
     Ok(())

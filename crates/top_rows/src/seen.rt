@@ -54,6 +54,14 @@ pub fn push_told(text: &mut String, lab: &Lab) -> Result<(), NoMemory> {
     Ok(())
 }
 
+/// Appends octets in hexadecimal.
+pub fn push_octets(text: &mut String, octets: &[u8]) -> Result<(), NoMemory> {
+    for octet in octets {
+        write!(text, " {octet:02X}")?;
+    }
+    Ok(())
+}
+
 /// Appends the stories of a run, and what each remote received, in hexadecimal.
 pub fn push_seen(text: &mut String, lab: &Lab) -> Result<(), NoMemory> {
     for view in &lab.sessions {
@@ -64,9 +72,7 @@ pub fn push_seen(text: &mut String, lab: &Lab) -> Result<(), NoMemory> {
     }
     for far in &lab.far {
         text.push_str("\nreceived:")?;
-        for octet in &far.received {
-            write!(text, " {octet:02X}")?;
-        }
+        push_octets(text, &far.received)?;
     }
     Ok(())
 }

@@ -1,10 +1,18 @@
 use Rattle.std.proofs.Common.{subst, sym, refl}
 use Rattle.std.specs.Prelude.{Ok}
 use Rattle.lab_words.specs.declared.job.Job.TheVariants.{Capture}
+use Rattle.node_configs.specs.Accepted.{IsAccepted}
 use Rattle.lab_capture.specs.Captures.{IsLabCapture}
 use Rattle.lab_top.specs.Cases.{BuiltOr}
 use Rattle.lab_top.proofs.Parts.{bad_run, stopped_ends, unbuilt_ends, read_ends}
 use Rattle.lab_top.proofs.jobs.capture_job.Goals as goal
+
+pub capture_octets-requires : goal.capture_octets-requires
+capture_octets-requires g c =
+    let built = subst (λ found. BuiltOr c.in-Ok.input (Ok found)) c.in-Some.is c.in_ok-lab.ensures in
+    let read = c.in-Ok.ensures in
+    let accepted : IsAccepted c.in-Ok.input = record { bytes = read.bytes; is = read.is } in
+    rw built.0 accepted
 
 pub returns-in-Err : goal.returns-in-Err
 returns-in-Err g c =

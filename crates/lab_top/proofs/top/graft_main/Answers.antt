@@ -1,5 +1,5 @@
-use Rattle.lab_top.proofs.Facts.{statuses, usage_told, refused_words, made_told, line_told, checked_told, audited_told, denied, bad_input, bad_unwritten, read_failed}
-use Rattle.lab_top.proofs.Facts.{write_failed, nothing_written, failed, run_ended, no_run, ran, input_taken, drilled, headline}
+use Rattle.lab_top.proofs.Facts.{statuses, usage_told, refused_words, made_told, line_told, checked_told, audited_told, imported_told, denied, bad_input, bad_unwritten}
+use Rattle.lab_top.proofs.Facts.{read_failed, write_failed, nothing_written, failed, run_ended, no_run, ran, input_taken, drilled, headline}
 use Rattle.lab_top.proofs.Facts.{reported, summed, journaled, captured, tested, viewed}
 use Rattle.lab_top.proofs.top.graft_main.Goals as goal
 
@@ -26,6 +26,9 @@ returns-clause-audited g c = audited_told _ _ _ _ _ c.finish_of.ensures.ended
 
 pub returns-clause-denied : goal.returns-clause-denied
 returns-clause-denied g c = denied _ _ _ _ _ c.finish_of.ensures.ended
+
+pub returns-clause-imported : goal.returns-clause-imported
+returns-clause-imported g c = imported_told _ _ _ _ _ c.finish_of.ensures.ended
 
 pub returns-clause-bad_input : goal.returns-clause-bad_input
 returns-clause-bad_input g c = bad_input _ _ _ _ _ c.finish_of.ensures.ended

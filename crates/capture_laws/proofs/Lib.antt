@@ -1,0 +1,7 @@
+mod SentSegments
+mod ByRounds
+mod Packets
+mod Inputs
+mod Sessions
+mod Taps
+mod Whole

@@ -1,0 +1,5 @@
+pub mod Types
+mod Slicing
+mod Remaining
+mod Distinct
+pub mod Joining

@@ -1,0 +1,12 @@
+pub mod Feeding
+pub mod Behind
+pub mod Ranges
+pub mod Hearing
+pub mod Fronts
+pub mod Packing
+pub mod Openings
+pub mod Telling
+pub mod Sizes
+pub mod Keeping
+pub mod Pieces
+pub mod Importing

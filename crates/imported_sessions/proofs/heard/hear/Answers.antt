@@ -1,0 +1,18 @@
+use Rattle.std.proofs.Common.{ap, ◌∙◌, ◌++◌, sym, map, take}
+use Rattle.std.specs.List.{range_with_len}
+use Rattle.imported_sessions.specs.Heard.{session_at, said_in}
+use Rattle.imported_sessions.proofs.Hearing.{flows_more, told_more}
+use Rattle.imported_sessions.proofs.heard.hear.Goals as goal
+
+pub loop-flow-preserved : goal.loop-flow-preserved
+loop-flow-preserved c =
+    let flows = c.args.flows.now in
+    let i = c.loop-flow.flow-index in
+    let flow = c.flow-item.result in
+    let so_far = c.loop-flow.invariant in
+    let next = c.in_ok-take_flow.ensures (take i flows) c.args.count so_far.sessions in
+    record {
+      sessions = next.0 ∙ ap (λ fs. map (session_at fs) (range_with_len 0 c.args.count)) (sym (flows_more flows i flow c.loop-flow-test.true c.flow-item.is));
+      said = next.1 ∙ ap (λ said. said ++ said_in c.args.count (take i flows) flow) so_far.said
+          ∙ sym (told_more flows i flow c.loop-flow-test.true c.flow-item.is c.args.count);
+    }

@@ -1,0 +1,8 @@
+use Rattle.std.proofs.Common.{◌≡◌, ◌++◌, take, string_bytes}
+use Rattle.std.specs.List.{flat_map}
+use Rattle.lab_import.specs.Texts.{peering_table}
+use Rattle.lab_import.proofs.tables.push_peerings.Given as goal
+
+-- the text so far is that of the peerings so far
+abbrev pub invariant-loop-peering : goal.invariant-loop-peering
+invariant-loop-peering l = string_bytes l.text ≡ string_bytes l.initial.text ++ flat_map peering_table (take l.peering-index l.peerings)
