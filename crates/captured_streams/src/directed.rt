@@ -3,9 +3,10 @@
 ghost use Rattle.std.specs.Prelude.{◌≡◌, ◌<◌, ◌^◌, ◌∷◌, [], List, length, count_by, IfOk, IfSome, MatchOption};
 ghost use Rattle.std.specs.List.{All};
 ghost use Rattle.captured_streams.specs.Directed.{is_bgp as is_bgp_lem, way_of as way_of_lem, peer_of as peer_of_lem};
-ghost use Rattle.captured_streams.specs.Directed.{directed_in, whole_segments};
+ghost use Rattle.captured_streams.specs.Directed.{directed, directed_in};
 ghost use Rattle.captured_streams.specs.Readings.{is_fragment};
 
+use crate::pieces::{MOST_PIECES, push_pieces};
 use graft_edge::{Items, NoMemory};
 use pcap_form::Packet;
 use std::alloc::Global;
@@ -33,7 +34,7 @@ pub(crate) struct Directed<'a> {
 /// What a capture has.
 #[derive(Drop)]
 pub(crate) struct Found<'a> {
-    /// The segments of BGP's connections, in the order of the capture.
+    /// The segments of BGP's connections in pieces, in the order of the capture.
     pub(crate) segments: Items<Directed<'a>>,
     /// How many packets are fragments.
     pub(crate) fragments: u64,
@@ -96,13 +97,13 @@ fn directed_segment<'a>(home: Option<u32>, segment: CapturedSegment<'a>) -> Opti
     Some(Directed { peer, way, segment })
 }
 
-/// Returns the segments of BGP's connections in a capture.
+/// Returns the segments of BGP's connections in a capture, long ones in pieces.
 pub(crate) fn directed_segments<'a>(
     alloc: Global,
     home: Option<u32>,
     packets: &[Packet<'a>],
 ) -> Result<Found<'a>, NoMemory>
-    ensures segments { IfOk result (λ found. found.segments ≡ whole_segments home packets.now) }
+    ensures segments { IfOk result (λ found. found.segments ≡ directed home packets.now) }
     ensures fragments { IfOk result (λ found. found.fragments ≡ count_by is_fragment packets.now) }
     ensures short { IfOk result (λ found. All (λ s. length s.segment.octets < 2 ^ 16) found.segments) }
 {
@@ -114,7 +115,7 @@ pub(crate) fn directed_segments<'a>(
                 let Some(directed) = directed_segment(home, segment) else {
                     continue;
                 };
-                segments.push(directed)?;
+                push_pieces(&mut segments, directed, MOST_PIECES)?;
             }
             Err(LeftOut::Fragment) => fragments += 1,
             Err(LeftOut::Other) => {}

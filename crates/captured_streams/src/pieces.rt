@@ -1,8 +1,8 @@
 //! Long segments, in pieces.
 
-ghost use Rattle.std.specs.Prelude.{◌≡◌, ◌<◌, ◌^◌, ◌++◌, length, take, IfOk, OnOk};
-ghost use Rattle.std.specs.List.{All, flat_map};
-ghost use Rattle.captured_streams.specs.Directed.{in_pieces as in_pieces_lem, pieces};
+ghost use Rattle.std.specs.Prelude.{◌≡◌, ◌<◌, ◌^◌, ◌++◌, length, take, OnOk};
+ghost use Rattle.std.specs.List.{All};
+ghost use Rattle.captured_streams.specs.Directed.{pieces};
 
 use crate::directed::Directed;
 use graft_edge::{Items, NoMemory};
@@ -17,7 +17,7 @@ const PIECE: usize = 4_096;
 const PIECE_LEN: u32 = 4_096;
 
 /// How many pieces there are in front of the rest: as much as a packet of IPv4 can have.
-const MOST_PIECES: u32 = 16;
+pub(crate) const MOST_PIECES: u32 = 16;
 
 /// Returns a segment like this one with other octets.
 fn like<'a>(segment: &Directed<'a>, opens: bool, first: Seq, octets: &'a [u8]) -> Directed<'a>
@@ -42,7 +42,7 @@ fn like<'a>(segment: &Directed<'a>, opens: bool, first: Seq, octets: &'a [u8]) -
 }
 
 /// Appends a segment in pieces: so many, and the rest.
-fn push_pieces<'a>(
+pub(crate) fn push_pieces<'a>(
     all: &mut Items<Directed<'a>>,
     segment: Directed<'a>,
     most: u32,
@@ -59,22 +59,4 @@ fn push_pieces<'a>(
     all.push(like(&segment, s.opens, s.first, front))?;
     let rest = like(&segment, false, s.first.plus(PIECE_LEN), behind);
     push_pieces(all, rest, most - 1)
-}
-
-/// Returns all segments in pieces.
-pub(crate) fn in_pieces<'a>(
-    alloc: Global,
-    segments: &[Directed<'a>],
-) -> Result<Items<Directed<'a>>, NoMemory>
-    requires { All (λ s. length s.segment.octets < 2 ^ 16) segments.now }
-    ensures pieces { IfOk result (λ all. all ≡ flat_map in_pieces_lem segments.now) }
-    ensures short { IfOk result (λ all. All (λ s. length s.segment.octets < 2 ^ 16) all) }
-{
-    let mut all = Items::new(alloc);
-    for segment in segments {
-        let s = &segment.segment;
-        let whole = like(segment, s.opens, s.first, s.octets);
-        push_pieces(&mut all, whole, MOST_PIECES)?;
-    }
-    Ok(all)
 }

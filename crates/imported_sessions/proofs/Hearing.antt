@@ -2,10 +2,10 @@
 use Rattle.std.proofs.Common.{◌≡◌, ℕ, zero, suc, ◌-◌, ◌+◌, ◌≤◌, ◌<◌, max, List, [], ◌∷◌, ◌++◌, length, map, take, drop, get_or, set, cond, eqb, ltb}
 use Rattle.std.proofs.Common.{Bool, true, false}
 use Rattle.std.proofs.Common.{Option, Some, None, refl, sym, ap, ◌∙◌, subst, arith}
-use Rattle.std.specs.Prelude.{◌&&◌, slice_get, filter, option_to_list}
+use Rattle.std.specs.Prelude.{◌&&◌, slice_get, filter, IfSome}
 use Rattle.std.specs.List.{flat_map, range_with_len}
 use Rattle.std.proofs.lemmas.Bool.{cond-false, cond-true, and_from, and_left, and_right, ne_eqb, le-ltb, lt-ltb, eq-eqb}
-use Rattle.std.proofs.lemmas.List.{append-nil, append_assoc, map-append, drop_all, take_more, length_push}
+use Rattle.std.proofs.lemmas.List.{append-nil, map-append, drop_all, take_more, length_push}
 use Rattle.std.proofs.lemmas.List.Concat.{flat_map-append}
 use Rattle.std.proofs.lemmas.List.Elements.{filter-append}
 use Rattle.std.proofs.lemmas.List.FromFn.{length-map-range_with_len}
@@ -19,8 +19,10 @@ use Rattle.bgp_types.proofs.ManyLaws.{after, after_more, after_stop, many_none}
 use Rattle.captured_streams.specs.declared.streams.Flow.{Flow}
 use Rattle.imported_sessions.specs.declared.imported.Said.{Said}
 use Rattle.imported_sessions.specs.declared.heard.Session.{Session}
+use Rattle.imported_sessions.specs.declared.opened.Opened.{Opened}
+use Rattle.imported_sessions.specs.Packed.{AreMoreStepsOf}
 use Rattle.imported_sessions.specs.declared.heard.Stage.TheVariants.{Nothing}
-use Rattle.imported_sessions.specs.Messages.{stream, octets_of, goes, opening, opening_len, ended_at, ended_by}
+use Rattle.imported_sessions.specs.Messages.{stream, octets_of, goes, opening, opening_len, ended_at, ended_by, unfinished}
 use Rattle.imported_sessions.specs.Heard.{opening_of, stage_of, session_of, session_at, said_between, said_by, said_in, told_by}
 use Rattle.imported_sessions.proofs.Feeding.{fed}
 use Rattle.imported_sessions.proofs.Fronts.{no_front, take_both}
@@ -31,16 +33,16 @@ use Rattle.imported_sessions.proofs.Ranges.{one_number_more, at, one_set, none_s
 
 -- A session that takes octets of its remote, behind others that it took before: all are its messages so far. Those that are behind the opening and
 -- weren't whole before are said.
-pub record IsTaking (peer : ℕ) (stream home octets : List ℕ) (earlier : List Said) (session : Session) (said : List Said) : Type 0 where
+pub record IsTaking (peer : ℕ) (stream home octets : List ℕ) (session : Session) (said : List Said) : Type 0 where
   pub all : List (List ℕ)
   pub so_far : after all (many frame_at session.rest) ≡ many frame_at (stream ++ octets)
   pub is : session ≡ record { peer = peer; opening = opening_of all; rest = session.rest; home = take 4096 home }
   pub within : length (many frame_at stream).0 ≤ length all
-  pub said_is : said ≡ earlier ++ map (said_by peer) (drop (max (opening_len all) (length (many frame_at stream).0)) all)
+  pub said_is : said ≡ map (said_by peer) (drop (max (opening_len all) (length (many frame_at stream).0)) all)
 
-module _ (peer : ℕ) (stream home octets : List ℕ) (earlier : List Said) where
+module _ (peer : ℕ) (stream home octets : List ℕ) where
   pub begins : (old session : Session) → old ≡ session_of peer stream home → session ≡ record old { rest = old.rest ++ octets }
-      → IsTaking peer stream home octets earlier session earlier
+      → IsTaking peer stream home octets session []
   unfolding session_of
   begins old session e is =
       let all = (many frame_at stream).0 in
@@ -52,13 +54,13 @@ module _ (peer : ℕ) (stream home octets : List ℕ) (earlier : List Said) wher
         is = is ∙ ap (λ (s : Session). record s { rest = s.rest ++ octets }) e
             ∙ ap (λ (bytes : List ℕ). record { peer = peer; opening = opening_of all; rest = bytes; home = take 4096 home }) (sym rest);
         within = omega arith;
-        said_is = sym (ap (λ (xs : List (List ℕ)). earlier ++ map (said_by peer) xs) none ∙ append-nil earlier);
+        said_is = sym (ap (map (said_by peer)) none);
       }
 
   pub takes : (session new : Session) (said : List Said) (message rest : List ℕ) (more : List (List ℕ))
-      (t : IsTaking peer stream home octets earlier session said) → frame_at session.rest ≡ Some (message, rest)
+      (t : IsTaking peer stream home octets session said) → frame_at session.rest ≡ Some (message, rest)
       → Takes t.all message new.opening more → new ≡ record session { opening = new.opening; rest = rest }
-      → IsTaking peer stream home octets earlier new (said ++ map (said_by peer) more)
+      → IsTaking peer stream home octets new (said ++ map (said_by peer) more)
   takes session new said message rest more t front opening is =
       let all = t.all in
       let n = length (many frame_at stream).0 in
@@ -73,22 +75,33 @@ module _ (peer : ℕ) (stream home octets : List ℕ) (earlier : List Said) wher
             ∙ ap (λ (bytes : List ℕ). record { peer = peer; opening = opening_of (all ++ message ∷ []); rest = bytes; home = take 4096 home }) (sym rest_is);
         within = let w = t.within in let l = length_push all message in omega arith;
         said_is = ap (λ (xs : List Said). xs ++ map (said_by peer) more) t.said_is
-            ∙ (append_assoc earlier (map (said_by peer) old) (map (said_by peer) more)
-            ∙ ap (λ (xs : List Said). earlier ++ xs) (sym (map-append (said_by peer) old more)
+            ∙ sym (map-append (said_by peer) old more)
             ∙ ap (λ (xs : List (List ℕ)). map (said_by peer) (old ++ xs)) opening.1
-            ∙ ap (map (said_by peer)) (sym (one_more_behind all message n t.within))));
+            ∙ ap (map (said_by peer)) (sym (one_more_behind all message n t.within));
       }
 
-  pub ends : (session : Session) (said : List Said) → IsTaking peer stream home octets earlier session said → frame_at session.rest ≡ None
-      → (session ≡ session_of peer (stream ++ octets) home) × (said ≡ earlier ++ said_between peer stream (stream ++ octets))
+  pub ends : (session : Session) (said : List Said) → IsTaking peer stream home octets session said → frame_at session.rest ≡ None
+      → (session ≡ session_of peer (stream ++ octets) home) × (said ≡ said_between peer stream (stream ++ octets))
   unfolding session_of said_between
   ends session said t none =
       let total : many frame_at (stream ++ octets) ≡ (t.all, session.rest) =
       after_stop frame_at t.all session.rest (many frame_at (stream ++ octets)) none t.so_far in (
         t.is ∙ ap (λ (m : List (List ℕ) × List ℕ). record { peer = peer; opening = opening_of m.0; rest = m.1; home = take 4096 home }) (sym total),
-        t.said_is ∙ ap (λ (m : List (List ℕ) × List ℕ). earlier
-            ++ map (said_by peer) (drop (max (opening_len m.0) (length (many frame_at stream).0)) m.0)) (sym total),
+        t.said_is
+            ∙ ap (λ (m : List (List ℕ) × List ℕ). map (said_by peer) (drop (max (opening_len m.0) (length (many frame_at stream).0)) m.0)) (sym total),
       )
+
+-- a session that takes octets, and the steps of what it says with them
+pub record IsTelling (opened : List Opened) (home_as peer : ℕ) (stream home octets : List ℕ) (old : List Said) (session : Session) (steps : List Said)
+    : Type 0 where
+  pub said : List Said
+  pub taking : IsTaking peer stream home octets session said
+  pub more : AreMoreStepsOf opened home_as said old steps
+
+pub short_if_some : (after : Option (List ℕ)) (message : List ℕ) → IfSome after (λ octets. octets ≡ message) → length message ≤ 4096
+    → IfSome after (λ octets. length octets ≤ 4096)
+short_if_some None message same short = tt
+short_if_some (Some octets) message same short = subst (λ (xs : List ℕ). length xs ≤ 4096) (sym same) short
 
 -- ---- a flow
 
@@ -134,12 +147,11 @@ module _ (before : List Flow) (flow : Flow) (count : ℕ) (old : List Session) (
   old_len = ap length is ∙ length-map-range_with_len (session_at before) 0 count
 
   -- the flow of an unknown session
-  pub unknown : length old ≤ flow.peer → (said : List Said) → (old ≡ map next (range_with_len 0 count)) × (said ≡ said ++ said_in count before flow)
-  unknown past said = (
+  pub unknown : length old ≤ flow.peer → (old ≡ map next (range_with_len 0 count)) × (said_in count before flow ≡ [])
+  unknown past = (
     none_set (session_at before) next count old is (λ k low. stays before flow k (λ e. omega (arith, past, old_len, low, e))),
-    sym (ap (λ (xs : List Said). said ++ xs)
-        (cond-false (ltb flow.peer count) (said_between flow.peer (stream Home flow.peer before) (stream Home flow.peer (before ++ flow ∷ []))) []
-        (le-ltb flow.peer count (omega (arith, past, old_len)))) ∙ append-nil said),
+    cond-false (ltb flow.peer count) (said_between flow.peer (stream Home flow.peer before) (stream Home flow.peer (before ++ flow ∷ []))) []
+        (le-ltb flow.peer count (omega (arith, past, old_len))),
   )
 
   module _ (low : flow.peer < length old) where
@@ -163,11 +175,11 @@ module _ (before : List Flow) (flow : Flow) (count : ℕ) (old : List Session) (
       all_next new taken = ap (set old flow.peer) taken ∙ one_set (session_at before) next count old is flow.peer below (λ k ne. stays before flow k ne)
 
       -- what the session does with octets of its remote
-      pub takes_home : flow.way ≡ Home → (new : Session) (octets : List ℕ) (earlier said : List Said) → octets ≡ flow.octets
+      pub takes_home : flow.way ≡ Home → (new : Session) (octets : List ℕ) (IsSaid : List Said → Type 0) → octets ≡ flow.octets
           → ((stream home : List ℕ) → session ≡ session_of session.peer stream home
-          → (new ≡ session_of session.peer (stream ++ octets) home) × (said ≡ earlier ++ said_between session.peer stream (stream ++ octets)))
-          → (set old flow.peer new ≡ map next (range_with_len 0 count)) × (said ≡ earlier ++ said_in count before flow)
-      takes_home way new octets earlier said same taken =
+          → (new ≡ session_of session.peer (stream ++ octets) home) × IsSaid (said_between session.peer stream (stream ++ octets)))
+          → (set old flow.peer new ≡ map next (range_with_len 0 count)) × IsSaid (said_in count before flow)
+      takes_home way new octets IsSaid same taken =
           let told = stream Home flow.peer before in
           let home = stream Remote flow.peer before in
           let by_number : session_of flow.peer told home ≡ session_of session.peer told home =
@@ -178,16 +190,15 @@ module _ (before : List Flow) (flow : Flow) (count : ℕ) (old : List Session) (
           let quiet : home ≡ stream Remote flow.peer (before ++ flow ∷ []) = sym (unheard before flow Remote flow.peer (ap (goes Remote) way)) in (
             all_next new (t.0 ∙ ap (λ (k : ℕ). session_of k (told ++ octets) home) number ∙ ap (λ (xs : List ℕ). session_of flow.peer xs home) more
                 ∙ ap (session_of flow.peer (stream Home flow.peer (before ++ flow ∷ []))) quiet),
-            t.1 ∙ ap (λ (k : ℕ). earlier ++ said_between k told (told ++ octets)) number
-                ∙ ap (λ (xs : List ℕ). earlier ++ said_between flow.peer told xs) more ∙ ap (λ (xs : List Said). earlier ++ xs) (sym said_known),
+            subst IsSaid (ap (λ (k : ℕ). said_between k told (told ++ octets)) number ∙ ap (said_between flow.peer told) more ∙ sym said_known) t.1,
           )
 
       -- what it does with octets of the home side
-      pub takes_remote : flow.way ≡ Remote → (octets home : List ℕ) (earlier : List Said) → octets ≡ flow.octets
+      pub takes_remote : flow.way ≡ Remote → (octets home : List ℕ) → octets ≡ flow.octets
           → home ≡ session.home ++ take (4096 - length session.home) octets
-          → (set old flow.peer (record session { home = home }) ≡ map next (range_with_len 0 count)) × (earlier ≡ earlier ++ said_in count before flow)
+          → (set old flow.peer (record session { home = home }) ≡ map next (range_with_len 0 count)) × (said_in count before flow ≡ [])
       unfolding session_of
-      takes_remote way octets home earlier same taken =
+      takes_remote way octets home same taken =
           let told = stream Home flow.peer before in
           let old_home = stream Remote flow.peer before in
           let quiet : told ≡ stream Home flow.peer (before ++ flow ∷ []) = sym (unheard before flow Home flow.peer (ap (goes Home) way)) in
@@ -203,8 +214,16 @@ module _ (before : List Flow) (flow : Flow) (count : ℕ) (old : List Session) (
             all_next (record session { home = home }) (ap (λ (s : Session). record s { home = home }) at_peer
                 ∙ ap (λ (xs : List ℕ). record { peer = flow.peer; opening = opening_of m.0; rest = m.1; home = xs }) is_home
                 ∙ ap (λ (xs : List ℕ). session_of flow.peer xs (stream Remote flow.peer (before ++ flow ∷ []))) quiet),
-            sym (ap (λ (xs : List Said). earlier ++ xs) (said_known ∙ nothing) ∙ append-nil earlier),
+            said_known ∙ nothing,
           )
+
+-- what is behind the last message of a session
+pub rest_at : (flows : List Flow) (count : ℕ) (sessions : List Session) → sessions ≡ map (session_at flows) (range_with_len 0 count) → (k : ℕ)
+    (session : Session) → k < length sessions → session ≡ get_or sessions k session → session.rest ≡ unfinished k flows
+unfolding session_of
+rest_at flows count sessions is k session low e =
+    let below : k < count = omega (arith, low, ap length is, length-map-range_with_len (session_at flows) 0 count) in
+    ap (λ (s : Session). s.rest) (e ∙ at (session_at flows) (session_at flows) count sessions is k session below)
 
 -- ---- a flow more
 

@@ -1,10 +1,8 @@
 -- A whole import.
 use Rattle.std.proofs.Common.{◌≡◌, ℕ, ◌+◌, ◌≤◌, ltb, List, ◌++◌, length, option_map, sym, ap, ◌∙◌, subst, arith}
-use Rattle.std.specs.Prelude.{All}
 use Rattle.std.specs.List.{filter, flat_map, range_with_len}
 use Rattle.std.proofs.lemmas.Bool.{and_parts}
-use Rattle.std.proofs.lemmas.List.Elements.{All-filter, All-weaker, filter_agree}
-use Rattle.captured_streams.specs.declared.streams.Flow.{Flow}
+use Rattle.std.proofs.lemmas.List.Elements.{filter_agree}
 use Rattle.captured_streams.specs.declared.streams.Streams.{Streams}
 use Rattle.imported_sessions.specs.declared.imported.Imported.{Imported}
 use Rattle.imported_sessions.specs.declared.imported.Said.{Said}
@@ -13,27 +11,16 @@ use Rattle.imported_sessions.specs.Heard.{told_by}
 use Rattle.imported_sessions.specs.Imports.{IsImport, peerings}
 use Rattle.imported_sessions.specs.Messages.{ended_at, told}
 use Rattle.imported_sessions.specs.Opened.{AreAllOpened, is_external_in}
+use Rattle.imported_sessions.specs.Packed.{AreStepsOf}
 use Rattle.imported_sessions.specs.Opens.{first_home, is_external, IsHomeAs, remote_opens}
 use Rattle.imported_sessions.specs.Steps.{ArePacked, last_of}
-use Rattle.imported_sessions.proofs.Feeding.{IsSized}
 use Rattle.imported_sessions.proofs.Openings.{each_opens, external_is}
 use Rattle.imported_sessions.proofs.Packing.{filter_both}
-use Rattle.imported_sessions.proofs.Sizes.{ended_all_sized}
-
--- no message behind an opening is too long for a step
-pub told_short : (count : ℕ) (flows : List Flow) (said : List Said) → said ≡ told_by count flows (length flows)
-    → All (λ message. length message.octets ≤ 4096) said
-told_short count flows said is =
-    let ended = flat_map (ended_at flows) (range_with_len 0 (length flows)) in
-    subst (All (λ message. length message.octets ≤ 4096)) (sym is)
-    (All-filter (λ message. ltb message.peer count) (λ message. length message.octets ≤ 4096) ended
-    (All-weaker (λ message. IsSized message.octets) (λ message. length message.octets ≤ 4096) (λ message sized. sized.short) ended
-    (ended_all_sized flows (length flows))))
 
 -- what is kept of the sessions
 pub record AreKeptOf (s : Streams) (opened : List Opened) (i : Imported) : Type 0 where
   pub whole : List Said
-  pub packed : ArePacked (filter (λ message. is_external_in opened i.home_as message.peer) (told_by (length s.peers) s.flows (length s.flows))) whole
+  pub packed : AreStepsOf opened i.home_as (told_by (length s.peers) s.flows (length s.flows)) whole
   pub steps_are : i.steps ≡ whole ++ flat_map (last_of s.flows) (filter (is_external s i.home_as) (range_with_len 0 (length s.peers)))
   pub peerings_are : i.peerings ≡ peerings s i.home_as
   pub internal : i.internal + length i.peerings ≡ length s.peers

@@ -29,7 +29,7 @@ use Rattle.captured_streams.specs.declared.streams.Streams.{Streams}
 use Rattle.imported_sessions.specs.declared.heard.Session.{Session}
 use Rattle.imported_sessions.specs.declared.opened.Opened.{Opened}
 use Rattle.imported_sessions.specs.Heard.{opening_of, session_at, session_of}
-use Rattle.imported_sessions.specs.Messages.{stream, messages as messages_of, opening, unfinished}
+use Rattle.imported_sessions.specs.Messages.{stream, messages as messages_of, opening}
 use Rattle.imported_sessions.specs.Opened.{AreAllOpened, AreOpened, IsOpened, is_external_in, open_told}
 use Rattle.imported_sessions.specs.Opens.{any_as, as_of, first_home, first_open, has_as, home_open, home_opens, is_external, IsHomeAs, remote_open}
 use Rattle.imported_sessions.specs.Opens.{remote_opens}
@@ -43,7 +43,6 @@ use Rattle.imported_sessions.proofs.Ranges.{next_is}
 pub record HasHeard (s : Streams) (k : ℕ) (session : Session) : Type 0 where
   pub number : session.peer ≡ k
   pub opening_is : session.opening.octets ≡ opening (messages_of k s.flows)
-  pub rest_is : session.rest ≡ unfinished k s.flows
   pub remote : first_open session.opening.octets ≡ remote_open s k
   pub home : first_open session.home ≡ home_open s k
 
@@ -54,21 +53,19 @@ has_heard s k session is =
     record {
       number = ap (λ (x : Session). x.peer) is;
       opening_is = octets;
-      rest_is = ap (λ (x : Session). x.rest) is;
       remote = ap first_open octets ∙ opening_reads (stream Home k s.flows);
       home = ap (λ (x : Session). first_open x.home) is ∙ first_octets_read (stream Remote k s.flows);
     }
 
 pub opened_here : (s : Streams) (k : ℕ) (session : Session) (opened : Opened) → HasHeard s k session → opened.peer ≡ session.peer
     → Some opened.remote ≡ first_open session.opening.octets → opened.remote_as ≡ as_of opened.remote → opened.home ≡ first_open session.home
-    → opened.opening ≡ session.opening.octets → opened.rest ≡ session.rest → IsOpened s k opened
-opened_here s k session opened h peer remote as_is home opening rest = record {
+    → opened.opening ≡ session.opening.octets → IsOpened s k opened
+opened_here s k session opened h peer remote as_is home opening = record {
   number = peer ∙ h.number;
   begins = sym (remote ∙ h.remote);
   as_is = as_is;
   home_is = home ∙ h.home;
   opening_is = opening ∙ h.opening_is;
-  rest_is = rest ∙ h.rest_is;
 }
 
 pub opened_more : (s : Streams) (opened : List Opened) (one : Opened) → AreOpened s opened → IsOpened s (length opened) one → AreOpened s (opened ++ one ∷ [])

@@ -11,7 +11,9 @@ use Rattle.std.proofs.lemmas.List.Elements.{All-nil, All-cons, All-get_or, All-p
 use Rattle.std.proofs.lemmas.Option.{same_Some, none-some, get_or_from_slice_get, slice_get_within}
 use Rattle.tcp_seq.proofs.Lookups.{get-append_left, get-append_right}
 use Rattle.imported_sessions.specs.declared.imported.Said.{Said}
-use Rattle.imported_sessions.specs.Packed.{has_room}
+use Rattle.imported_sessions.specs.declared.opened.Opened.{Opened}
+use Rattle.imported_sessions.specs.Opened.{is_external_in}
+use Rattle.imported_sessions.specs.Packed.{AreMoreStepsOf, AreStepsOf, has_room}
 use Rattle.imported_sessions.specs.Steps.{ArePacked, IsFull, IsStep, octets_in}
 
 -- ---- the last element
@@ -232,13 +234,6 @@ module _ {X : Type 0} (p : X → Bool) (xs : List X) (x : X) where
   pub left_more : p x ≡ false → filter p (xs ++ x ∷ []) ≡ filter p xs
   left_more e = filter-append p xs (x ∷ []) ∙ ap (λ ys. filter p xs ++ ys) (cond-false (p x) (x ∷ []) [] e) ∙ append-nil (filter p xs)
 
--- what holds of each element holds of the next one
-pub holds_here : {X : Type 0} (P : X → Type 0) (all before rest : List X) (x : X) → All P all → before ++ x ∷ rest ≡ all → P x
-holds_here P all before rest x each parts =
-    let size : length (before ++ x ∷ rest) ≡ length before + suc (length rest) = length-append before (x ∷ rest) in
-    subst P (ap (λ ys. get_or ys (length before) x) (sym parts) ∙ get_or_at before x rest x (length before) refl)
-    (All-get_or P all (length before) x (omega (arith, size, ap length parts)) each)
-
 pub filter_both : {X : Type 0} (p q : X → Bool) → ((x : X) → p x ≡ true → q x ≡ true) → (xs : List X) → filter p (filter q xs) ≡ filter p xs
 filter_both p q within [] = refl
 filter_both p q within (x ∷ xs) = by_test (filter_both p q within xs) (q x) refl (p x) refl where
@@ -248,3 +243,28 @@ filter_both p q within (x ∷ xs) = by_test (filter_both p q within xs) (q x) re
   by_test rest true e false f = cond-false (p x) (x ∷ filter p (filter q xs)) (filter p (filter q xs)) f ∙ rest
   by_test rest false e true f = absurd (false≢true (sym e ∙ within x f))
   by_test rest false e false f = rest
+
+-- ---- the steps of the remotes that are kept
+
+module _ (opened : List Opened) (home_as : ℕ) where
+  abbrev is_kept : Said → Bool
+  is_kept message = is_external_in opened home_as message.peer
+
+  pub none_more : (more steps : List Said) → more ≡ [] → AreMoreStepsOf opened home_as more steps steps
+  none_more more steps none = λ told p.
+      subst (λ (ms : List Said). AreStepsOf opened home_as ms steps) (sym (ap (λ (ms : List Said). told ++ ms) none ∙ append-nil told)) p
+
+  pub one_left : (message : Said) (steps : List Said) → is_kept message ≡ false → AreMoreStepsOf opened home_as (message ∷ []) steps steps
+  one_left message steps e = λ told p. subst (λ (ms : List Said). ArePacked ms steps) (sym (left_more is_kept told message e)) p
+
+  pub one_kept : (message : Said) (old new : List Said) → is_kept message ≡ true → length message.octets ≤ 4096
+      → ((all : List Said) → ArePacked all old → length message.octets ≤ 4096 → ArePacked (all ++ message ∷ []) new)
+      → AreMoreStepsOf opened home_as (message ∷ []) old new
+  one_kept message old new e short pushed = λ told p.
+      subst (λ (ms : List Said). ArePacked ms new) (sym (kept_more is_kept told message e)) (pushed (filter is_kept told) p short)
+
+  -- more messages, and then more of them
+  pub more_again : (one two old mid new : List Said) → AreMoreStepsOf opened home_as one old mid → AreMoreStepsOf opened home_as two mid new
+      → AreMoreStepsOf opened home_as (one ++ two) old new
+  more_again one two old mid new first then_more = λ told p.
+      subst (λ (ms : List Said). AreStepsOf opened home_as ms new) (append_assoc told one two) (then_more (told ++ one) (first told p))

@@ -5,7 +5,7 @@ use Rattle.bgp_types.specs.declared.message.Message.{Message}
 use Rattle.bgp_types.specs.declared.message.Message.TheVariants as messages
 use Rattle.bgp_types.specs.declared.message.OpenMsg.{OpenMsg}
 use Rattle.captured_streams.specs.declared.streams.Streams.{Streams}
-use Rattle.imported_sessions.specs.Messages.{messages as messages_of, opening, unfinished}
+use Rattle.imported_sessions.specs.Messages.{messages as messages_of, opening}
 use Rattle.imported_sessions.specs.Opens.{as_of, home_open, remote_open}
 use Rattle.imported_sessions.specs.declared.opened.Opened.{Opened}
 
@@ -23,7 +23,6 @@ pub record IsOpened (s : Streams) (k : ℕ) (session : Opened) : Type 0 where
   pub as_is : session.remote_as ≡ as_of session.remote
   pub home_is : session.home ≡ home_open s k
   pub opening_is : session.opening ≡ opening (messages_of k s.flows)
-  pub rest_is : session.rest ≡ unfinished k s.flows
 
 -- the first sessions, as many as there are of these
 abbrev pub AreOpened : Streams → List Opened → Type 0

@@ -1,17 +1,21 @@
 //! What both sides of each session say, as far as it is read.
 
-ghost use Rattle.std.specs.Prelude.{ℕ, ◌≡◌, ◌-◌, ◌++◌, ◌∷◌, List, [], take, length, map, IfOk, OnOk};
+ghost use Rattle.std.specs.Prelude.{ℕ, ◌≡◌, ◌-◌, ◌<◌, ◌++◌, ◌∷◌, List, [], take, length, map, IfOk, IfSome, OnOk};
 ghost use Rattle.std.specs.List.{range_with_len};
 ghost use Rattle.std.specs.Option.{option_to_list};
 ghost use Rattle.bgp_types.specs.Header.{kind_in};
 ghost use Rattle.captured_streams.specs.declared.streams.Flow.{Flow as FlowValue};
-ghost use Rattle.imported_sessions.specs.Heard.{behind, IsMessageAt, opening_of, said_between, said_by, said_in, session_at, session_of, told_by};
+ghost use Rattle.imported_sessions.specs.Heard.{behind, IsMessageAt, opening_of, said_between, said_in, session_at, session_of, told_by};
+ghost use Rattle.imported_sessions.specs.Messages.{unfinished};
+ghost use Rattle.imported_sessions.specs.Packed.{AreMoreStepsOf, AreStepsOf};
 
 use crate::imported::Said;
+use crate::opened::Opened;
+use crate::steps::push_external;
 use bgp_frame::{FrontFrame, first_frame};
 use bgp_types::types::KEEPALIVE;
 use captured_streams::Flow;
-use graft_edge::{ByteQueue, Items, NoMemory, Octets};
+use graft_edge::{ByteQueue, NoMemory, Octets};
 use std::alloc::Global;
 use tcp_seq::Way;
 
@@ -50,8 +54,8 @@ pub(crate) struct Session {
 #[derive(Drop)]
 pub(crate) struct Heard {
     pub(crate) sessions: Vec<Session>,
-    /// The messages behind the openings, in the order in which they are whole.
-    pub(crate) said: Items<Said>,
+    /// The steps in which the remotes that are kept say the messages behind their openings.
+    pub(crate) steps: Vec<Said>,
 }
 
 /// Returns the message at the front of octets, if it is whole and its header is sound.
@@ -70,8 +74,9 @@ fn take_message(
     kind: u8,
     message: Octets,
 ) -> Result<Option<Octets>, NoMemory>
-    ensures { IfOk result (λ after. (all : List (List ℕ)) → opening.old ≡ opening_of all → kind ≡ kind_in message
+    ensures taken { IfOk result (λ after. (all : List (List ℕ)) → opening.old ≡ opening_of all → kind ≡ kind_in message
         → (opening.new ≡ opening_of (all ++ message ∷ [])) × (option_to_list after ≡ behind all message)) }
+    ensures same { IfOk result (λ after. IfSome after (λ octets. octets ≡ message)) }
 {
     match opening.stage {
         Stage::Nothing => {
@@ -91,33 +96,26 @@ fn take_message(
     }
 }
 
-/// Adds a remote's message, if there is one, to what is said.
-fn say(said: &mut Items<Said>, peer: usize, message: Option<Octets>) -> Result<(), NoMemory>
-    ensures { OnOk result (said.new ≡ said.old ++ map (said_by peer) (option_to_list message)) }
-{
-    match message {
-        Some(octets) => said.push(Said { peer, octets }),
-        None => Ok(()),
-    }
-}
-
-/// Takes octets of a remote. The messages that are whole then and stand behind its opening are added to `said`.
+/// Takes octets of a remote. The messages that are whole then and stand behind its opening are added to the steps, if the
+/// remote is kept.
 fn take_octets(
     alloc: Global,
     session: &mut Session,
     octets: &[u8],
-    said: &mut Items<Said>,
+    opened: &[Opened],
+    home_as: u32,
+    steps: &mut Vec<Said>,
 ) -> Result<(), NoMemory>
     ensures { OnOk result ((stream home : List ℕ) → session.old ≡ session_of session.old.peer stream home
         → (session.new ≡ session_of session.old.peer (stream ++ octets.now) home)
-        × (said.new ≡ said.old ++ said_between session.old.peer stream (stream ++ octets.now))) }
+        × AreMoreStepsOf opened.now home_as (said_between session.old.peer stream (stream ++ octets.now)) steps.old.items steps.new.items) }
 {
     session.rest.extend(octets)?;
     while let Some(front) = front_message(session.rest.as_slice()) {
         let message = Octets::from_slice(alloc, &session.rest.as_slice()[..front.len])?;
         session.rest.drop_front(front.len);
         let message = take_message(&mut session.opening, front.kind, message)?;
-        say(said, session.peer, message)?;
+        push_external(steps, opened, home_as, session.peer, message)?;
     }
     Ok(())
 }
@@ -134,19 +132,21 @@ fn take_home(home: &mut Octets, octets: &[u8]) -> Result<(), NoMemory>
 fn take_flow(
     alloc: Global,
     sessions: &mut Vec<Session>,
-    said: &mut Items<Said>,
+    steps: &mut Vec<Said>,
     flow: &Flow,
+    opened: &[Opened],
+    home_as: u32,
 ) -> Result<(), NoMemory>
     ensures { OnOk result ((before : List FlowValue) (count : ℕ) → sessions.old.items ≡ map (session_at before) (range_with_len 0 count)
         → (sessions.new.items ≡ map (session_at (before ++ flow.now ∷ [])) (range_with_len 0 count))
-        × (said.new ≡ said.old ++ said_in count before flow.now)) }
+        × AreMoreStepsOf opened.now home_as (said_in count before flow.now) steps.old.items steps.new.items) }
 {
     if flow.peer >= sessions.len() {
         return Ok(());
     }
     let session = &mut sessions[flow.peer];
     match flow.way {
-        Way::Home => take_octets(alloc, session, &flow.octets, said),
+        Way::Home => take_octets(alloc, session, &flow.octets, opened, home_as, steps),
         Way::Remote => take_home(&mut session.home, &flow.octets),
     }
 }
@@ -170,17 +170,33 @@ fn none_heard(alloc: Global, count: usize) -> Result<Vec<Session>, NoMemory>
     Ok(sessions)
 }
 
-/// Takes what the segments of this many sessions brought, one behind another.
-pub(crate) fn hear(alloc: Global, count: usize, flows: &[Flow]) -> Result<Heard, NoMemory>
+/// Takes what the segments of this many sessions brought, one behind another. Of these that have opened, the remotes of
+/// other ASes than the home side's are kept.
+pub(crate) fn hear(
+    alloc: Global,
+    count: usize,
+    flows: &[Flow],
+    opened: &[Opened],
+    home_as: u32,
+) -> Result<Heard, NoMemory>
     ensures sessions { IfOk result (λ heard. heard.sessions.items ≡ map (session_at flows.now) (range_with_len 0 count)) }
-    ensures said { IfOk result (λ heard. heard.said ≡ told_by count flows.now (length flows.now)) }
+    ensures steps { IfOk result (λ heard. AreStepsOf opened.now home_as (told_by count flows.now (length flows.now)) heard.steps.items) }
 {
     let mut heard = Heard {
         sessions: none_heard(alloc, count)?,
-        said: Items::new(alloc),
+        steps: Vec::new(alloc),
     };
     for flow in flows {
-        take_flow(alloc, &mut heard.sessions, &mut heard.said, flow)?;
+        take_flow(alloc, &mut heard.sessions, &mut heard.steps, flow, opened, home_as)?;
     }
     Ok(heard)
+}
+
+/// Returns what is behind the last whole message of a remote.
+pub(crate) fn rest_of(sessions: &[Session], peer: usize) -> &[u8]
+    requires { peer < length sessions.now }
+    ensures { (flows : List FlowValue) (count : ℕ) → sessions.now ≡ map (session_at flows) (range_with_len 0 count)
+        → result.now ≡ unfinished peer flows }
+{
+    sessions[peer].rest.as_slice()
 }

@@ -19,7 +19,7 @@ use bgp_types::{Expected, HEADER, Message, NoMemory, Octets, OpenMsg, SessionSta
 use bgp_wire::{CodecFault, as_said, read_message};
 use byteorder::{BigEndian, ByteOrder};
 use captured_streams::{Peer, Streams};
-use graft_edge::{ByteQueue, Items};
+use graft_edge::Items;
 use std::alloc::Global;
 
 /// A session whose remote begins with a sound OPEN.
@@ -34,8 +34,6 @@ pub(crate) struct Opened {
     pub(crate) home: Option<OpenMsg>,
     /// The remote's opening.
     pub(crate) opening: Octets,
-    /// What is behind the remote's last whole message.
-    pub(crate) rest: ByteQueue,
 }
 
 /// Returns the AS of an OPEN.
@@ -137,7 +135,6 @@ pub(crate) fn open_all(
             remote,
             home: read_open(alloc, &session.home)?,
             opening: session.opening.octets,
-            rest: session.rest,
         })?;
     }
     Ok(all)

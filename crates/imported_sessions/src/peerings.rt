@@ -1,14 +1,16 @@
 //! The peerings of a capture.
 
-ghost use Rattle.std.specs.Prelude.{ℕ, ◌≡◌, ◌+◌, ◌++◌, length, filter, IfOk, OnOk};
+ghost use Rattle.std.specs.Prelude.{ℕ, ◌≡◌, ◌+◌, ◌++◌, length, filter, map, IfOk, OnOk};
 ghost use Rattle.std.specs.List.{flat_map, range_with_len};
 ghost use Rattle.captured_streams.specs.declared.streams.Streams.{Streams as StreamsValue};
+ghost use Rattle.imported_sessions.specs.Heard.{session_at};
 ghost use Rattle.imported_sessions.specs.Imports.{has_unicast as has_unicast_lem, is_unicast as is_unicast_lem, is_wide as is_wide_lem};
 ghost use Rattle.imported_sessions.specs.Imports.{peering_with, peerings as peerings_lem};
 ghost use Rattle.imported_sessions.specs.Opened.{AreAllOpened, IsOpened};
 ghost use Rattle.imported_sessions.specs.Opens.{home_open, is_external};
 ghost use Rattle.imported_sessions.specs.Steps.{last_of};
 
+use crate::heard::{Session, rest_of};
 use crate::imported::{ImportedPeering, Said};
 use crate::opened::{Opened, ends};
 use crate::steps::push_octets;
@@ -82,9 +84,11 @@ pub(crate) fn keep(
     streams: &Streams,
     opened: Items<Opened>,
     home_as: u32,
+    sessions: &[Session],
     steps: &mut Vec<Said>,
 ) -> Result<Kept, NoMemory>
-    requires { AreAllOpened streams.now opened }
+    requires opened { AreAllOpened streams.now opened }
+    requires sessions { sessions.now ≡ map (session_at streams.now.flows) (range_with_len 0 (length streams.now.peers)) }
     ensures peerings { IfOk result (λ kept. kept.peerings ≡ peerings_lem streams.now home_as) }
     ensures internal { IfOk result (λ kept. kept.internal + length kept.peerings ≡ length streams.now.peers) }
     ensures steps { OnOk result (steps.new.items ≡ steps.old.items
@@ -99,7 +103,7 @@ pub(crate) fn keep(
             kept.internal += 1;
             continue;
         }
-        push_octets(alloc, steps, session.peer, session.rest.as_slice())?;
+        push_octets(alloc, steps, session.peer, rest_of(sessions, session.peer))?;
         kept.peerings
             .push(peering(ends(&streams.peers, session.peer), session))?;
     }

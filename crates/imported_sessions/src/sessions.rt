@@ -10,7 +10,6 @@ use crate::home::{home_as, home_id};
 use crate::imported::Imported;
 use crate::opened::open_all;
 use crate::peerings::keep;
-use crate::steps::pack;
 use captured_streams::Streams;
 use graft_edge::{Items, NoMemory};
 use std::alloc::Global;
@@ -42,25 +41,26 @@ impl From<NoMemory> for ImportStop {
 /// first one that doesn't. Its opening is that OPEN, and the next message if it is a KEEPALIVE and both have at most 4,096
 /// octets. The rest that it says are steps, cut between messages, of at most 4,096 octets: messages of one remote that follow
 /// one another in the capture stand in one step as far as they have room. What is behind the last whole message of a
-/// remote comes last. Sessions with remotes of the home side's own AS are left out. The time that it takes grows with the number of
-/// octets.
+/// remote comes last. Sessions with remotes of the home side's own AS are left out. All is read twice: first for the OPENs,
+/// and then, when it is known who is kept, for the steps, so that no message stands alone. The time that it takes grows
+/// with the number of octets.
 pub fn import_sessions(alloc: Global, streams: &Streams) -> Result<Imported, ImportStop>
     ensures import { IfOk result (IsImport streams.now) }
     ensures says { IfOk result (SayAll streams.now) }
     ensures small { IfOk result AreSmall }
     ensures stop { (remote : SocketValue) → result ≡ Err (stops.NoOpen remote) → IsFirstWithoutOpen streams.now remote }
 {
-    let heard = hear(alloc, streams.peers.len(), &streams.flows)?;
-    let opened = open_all(alloc, streams, heard.sessions)?;
+    let first = hear(alloc, streams.peers.len(), &streams.flows, &[], 0)?;
+    let opened = open_all(alloc, streams, first.sessions)?;
     let home_as = home_as(alloc, &opened)?;
     let home_id = home_id(&opened);
-    let mut steps = pack(alloc, &opened, home_as, heard.said)?;
-    let kept = keep(alloc, streams, opened, home_as, &mut steps)?;
+    let mut heard = hear(alloc, streams.peers.len(), &streams.flows, &opened, home_as)?;
+    let kept = keep(alloc, streams, opened, home_as, &heard.sessions, &mut heard.steps)?;
     Ok(Imported {
         home_as,
         home_id,
         peerings: kept.peerings,
-        steps: Items::from_vec(steps),
+        steps: Items::from_vec(heard.steps),
         internal: kept.internal,
         fragments: streams.fragments,
         others: streams.others,

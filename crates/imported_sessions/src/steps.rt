@@ -1,16 +1,17 @@
 //! The steps in which remotes say what is behind their openings.
 
-ghost use Rattle.std.specs.Prelude.{◌≡◌, ◌≤◌, ◌-◌, ◌++◌, ◌∷◌, [], List, length, filter, map, slice_get, IfOk, OnOk};
-ghost use Rattle.std.specs.List.{All};
+ghost use Rattle.std.specs.Prelude.{◌≡◌, ◌≤◌, ◌-◌, ◌++◌, ◌∷◌, [], List, length, map, slice_get, IfSome, OnOk};
+ghost use Rattle.std.specs.Option.{option_to_list};
+ghost use Rattle.imported_sessions.specs.Heard.{said_by};
 ghost use Rattle.imported_sessions.specs.Opened.{is_external_in};
-ghost use Rattle.imported_sessions.specs.Packed.{has_room as has_room_lem};
+ghost use Rattle.imported_sessions.specs.Packed.{AreMoreStepsOf, has_room as has_room_lem};
 ghost use Rattle.imported_sessions.specs.declared.imported.Said.{Said as SaidValue};
 ghost use Rattle.imported_sessions.specs.Steps.{ArePacked, pieces};
 
 use crate::heard::MOST;
 use crate::imported::Said;
 use crate::opened::Opened;
-use graft_edge::{Items, NoMemory, Octets};
+use graft_edge::{NoMemory, Octets};
 use std::alloc::Global;
 
 /// Whether a message belongs into the last step: it is of the same remote, and there is room.
@@ -48,24 +49,24 @@ fn is_external(opened: &[Opened], home_as: u32, peer: usize) -> bool
     }
 }
 
-/// Packs the messages of remotes of other ASes than the home side's into steps.
-pub(crate) fn pack(
-    alloc: Global,
+/// Adds a remote's message, if there is one, to the steps, if the remote is of another AS than the home side.
+pub(crate) fn push_external(
+    steps: &mut Vec<Said>,
     opened: &[Opened],
     home_as: u32,
-    said: Items<Said>,
-) -> Result<Vec<Said>, NoMemory>
-    requires { All (λ message. length message.octets ≤ 4096) said }
-    ensures { IfOk result (λ steps. ArePacked (filter (λ message. is_external_in opened.now home_as message.peer) said) steps.items) }
+    peer: usize,
+    message: Option<Octets>,
+) -> Result<(), NoMemory>
+    requires { IfSome message (λ octets. length octets ≤ 4096) }
+    ensures { OnOk result (AreMoreStepsOf opened.now home_as (map (said_by peer) (option_to_list message)) steps.old.items steps.new.items) }
 {
-    let mut steps = Vec::new(alloc);
-    for message in said.into_vec() {
-        if !is_external(opened, home_as, message.peer) {
-            continue;
-        }
-        push_message(&mut steps, message)?;
+    let Some(octets) = message else {
+        return Ok(());
+    };
+    if !is_external(opened, home_as, peer) {
+        return Ok(());
     }
-    Ok(steps)
+    push_message(steps, Said { peer, octets })
 }
 
 /// Adds steps with these octets of a remote.

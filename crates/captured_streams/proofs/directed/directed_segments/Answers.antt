@@ -4,9 +4,9 @@ use Rattle.std.specs.List.{All}
 use Rattle.tcp_packets.specs.declared.read.LeftOut.TheVariants.{Fragment, Other}
 use Rattle.captured_streams.specs.Directed.{directed_in}
 use Rattle.captured_streams.specs.Readings.{is_left}
-use Rattle.captured_streams.proofs.Segments.{one_more, none_more, fragment_more, fragments_stay, IsShort, short_more}
+use Rattle.captured_streams.proofs.Segments.{one_more, none_more, fragment_more, fragments_stay, IsShort}
 use Rattle.captured_streams.proofs.directed.directed_segments.Goals as goal
-use Rattle.captured_streams.proofs.directed.directed_segments.Goals.{in-Ok+in-Some+in_ok-push-in-Ok, in-Err-Fragment, in-Err-Other}
+use Rattle.captured_streams.proofs.directed.directed_segments.Goals.{in-Ok+in-Some+in_ok-push_pieces-in-Ok, in-Err-Fragment, in-Err-Other}
 
 pub loop-packet-preserved : goal.loop-packet-preserved
 loop-packet-preserved c =
@@ -21,15 +21,14 @@ loop-packet-preserved c =
     let r = c.read_packet.result in
     let is = c.read_packet.ensures.segment in
     elim c.match-read_packet.branch [
-      | in-Ok+in-Some+in_ok-push-in-Ok w ↦
+      | in-Ok+in-Some+in_ok-push_pieces-in-Ok w ↦
           let read : r ≡ Ok w.in-Ok.segment = cc in
-          let joins = w.segments-is ∙ w.in_ok-push-in-Ok.ensures.ok in
+          let joins = w.segments-is ∙ w.in_ok-push_pieces-in-Ok.ensures.pieces in
           record {
             segments = one_more home packets i p below at old c.match-read_packet.segments r w.in-Some.directed so_far.segments is
                 (ap (directed_in home) read ∙ w.in-Some.ensures.segment) joins;
             fragments = w.fragments-is ∙ fragments_stay home packets i p below at c.loop-packet.fragments r is (ap is_left read) so_far.fragments;
-            short = short_more old c.match-read_packet.segments w.in-Some.directed w.in-Ok.segment so_far.short joins w.in-Some.ensures.same
-                w.in-Ok.ensures.short;
+            short = subst (All IsShort) (sym w.segments-is) (w.in_ok-push_pieces-in-Ok.ensures.short so_far.short);
             within = omega (arith, w.fragments-is, so_far.within);
           }
       | in-Err-Fragment w ↦

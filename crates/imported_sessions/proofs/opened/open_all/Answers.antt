@@ -51,10 +51,9 @@ loop-session-preserved c =
       remote = c.in-Some-2.remote;
       home = c.in_ok-read_open.field-0;
       opening = session.opening.octets;
-      rest = session.rest;
     } in
     let is = opened_here s (length at.yielded) session opened next.1 refl (sym c.in-Some-2.is ∙ c.in_ok-remote.ensures ∙ ap first_open c.deref.ensures)
-    c.as_of.ensures (c.in_ok-read_open.ensures ∙ ap first_open c.deref-in-loop-session.ensures) refl refl in
+    c.as_of.ensures (c.in_ok-read_open.ensures ∙ ap first_open c.deref-in-loop-session.ensures) refl in
     let pushed : c.push.new.self ≡ at.all ++ opened ∷ [] = c.in_ok-push.ensures.ok in
     record {
       left = append_assoc at.yielded (session ∷ []) rest ∙ parts;
