@@ -1,8 +1,8 @@
 -- Sessions that take what segments bring.
-use Rattle.std.proofs.Common.{◌≡◌, ℕ, zero, suc, ◌-◌, ◌+◌, ◌≤◌, ◌<◌, max, List, [], ◌∷◌, ◌++◌, length, map, take, drop, get_or, set, cond, eqb, ltb}
+use Rattle.std.proofs.Common.{◌≡◌, ℕ, suc, ◌-◌, ◌+◌, ◌≤◌, ◌<◌, max, List, [], ◌∷◌, ◌++◌, length, map, take, drop, get_or, set, cond, eqb, ltb}
 use Rattle.std.proofs.Common.{Bool, true, false}
 use Rattle.std.proofs.Common.{Option, Some, None, refl, sym, ap, ◌∙◌, subst, arith}
-use Rattle.std.specs.Prelude.{◌&&◌, slice_get, filter, IfSome}
+use Rattle.std.specs.Prelude.{◌&&◌, filter, IfSome}
 use Rattle.std.specs.List.{flat_map, range_with_len}
 use Rattle.std.proofs.lemmas.Bool.{cond-false, cond-true, and_from, and_left, and_right, ne_eqb, le-ltb, lt-ltb, eq-eqb}
 use Rattle.std.proofs.lemmas.List.{append-nil, map-append, drop_all, take_more, length_push}
@@ -219,11 +219,11 @@ module _ (before : List Flow) (flow : Flow) (count : ℕ) (old : List Session) (
 
 -- what is behind the last message of a session
 pub rest_at : (flows : List Flow) (count : ℕ) (sessions : List Session) → sessions ≡ map (session_at flows) (range_with_len 0 count) → (k : ℕ)
-    (session : Session) → k < length sessions → session ≡ get_or sessions k session → session.rest ≡ unfinished k flows
+    (session : Session) → k < length sessions → (get_or sessions k session).rest ≡ unfinished k flows
 unfolding session_of
-rest_at flows count sessions is k session low e =
+rest_at flows count sessions is k session low =
     let below : k < count = omega (arith, low, ap length is, length-map-range_with_len (session_at flows) 0 count) in
-    ap (λ (s : Session). s.rest) (e ∙ at (session_at flows) (session_at flows) count sessions is k session below)
+    ap (λ (s : Session). s.rest) (at (session_at flows) (session_at flows) count sessions is k session below)
 
 -- ---- a flow more
 

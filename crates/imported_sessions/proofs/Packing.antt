@@ -1,13 +1,13 @@
 -- Messages that are packed into steps.
-use Rattle.std.proofs.Common.{◌≡◌, ℕ, zero, suc, ◌+◌, ◌-◌, ◌<◌, ◌≤◌, Bool, true, false, cond, eqb, leb, List, [], ◌∷◌, ◌++◌, length, take, drop, get_or, set}
+use Rattle.std.proofs.Common.{◌≡◌, ℕ, zero, suc, ◌+◌, ◌-◌, ◌<◌, ◌≤◌, Bool, true, false, cond, eqb, leb, List, [], ◌∷◌, ◌++◌, length, take, get_or, set}
 use Rattle.std.proofs.Common.{Option, Some, None, ◌⊎◌, refl, sym, ap, ◌∙◌, subst, inl, inr, append_assoc, length-append, arith}
 use Rattle.std.specs.Prelude.{◌&&◌, All, slice_get}
 use Rattle.std.specs.List.{filter, flat_map}
 use Rattle.std.proofs.lemmas.Bool.{and_cases, and_left, and_parts, cases_lt, cond-false, cond-true, eq-eqb, le-leb, lt-leb, ne_eqb, eqb-true}
 use Rattle.std.proofs.lemmas.Bool.{eqb-false, leb-true, leb-false, false≢true}
-use Rattle.std.proofs.lemmas.List.{append-nil, length_push, set_split, drop_all, get_or_at, take_more, take_all}
+use Rattle.std.proofs.lemmas.List.{append-nil, length_push, set_split, drop_all, take_more, take_all}
 use Rattle.std.proofs.lemmas.List.Concat.{flat_map-append}
-use Rattle.std.proofs.lemmas.List.Elements.{All-nil, All-cons, All-get_or, All-push, filter-append}
+use Rattle.std.proofs.lemmas.List.Elements.{All-nil, All-cons, All-push, filter-append}
 use Rattle.std.proofs.lemmas.Option.{same_Some, none-some, get_or_from_slice_get, slice_get_within}
 use Rattle.tcp_seq.proofs.Lookups.{get-append_left, get-append_right}
 use Rattle.imported_sessions.specs.declared.imported.Said.{Said}

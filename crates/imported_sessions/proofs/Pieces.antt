@@ -1,6 +1,6 @@
 -- Octets in pieces.
-use Rattle.std.proofs.Common.{◌≡◌, ℕ, suc, ◌+◌, ◌-◌, ◌*◌, ◌/◌, ◌<◌, ◌≤◌, min, List, [], ◌∷◌, ◌++◌, length, map, take, drop, append_assoc, refl, sym}
-use Rattle.std.proofs.Common.{ap, ◌∙◌, length-drop, length-append, arith}
+use Rattle.std.proofs.Common.{◌≡◌, ℕ, ◌+◌, ◌*◌, ◌/◌, ◌<◌, min, List, [], ◌∷◌, ◌++◌, length, map, take, drop, append_assoc, refl, sym}
+use Rattle.std.proofs.Common.{ap, ◌∙◌, length-drop, arith}
 use Rattle.std.specs.Fork.{slice_chunk}
 use Rattle.std.specs.List.{range_with_len}
 use Rattle.std.proofs.lemmas.List.{take_at, drop_at, take_min, drop_min, drop-drop, map_push}

@@ -1,12 +1,12 @@
 -- What remotes say in openings and steps is all that they say.
-use Rattle.std.proofs.Common.{◌≡◌, ℕ, zero, suc, ◌+◌, ◌-◌, ◌*◌, ◌/◌, ◌<◌, ◌≤◌, max, Bool, true, false, cond, eqb, leb, ltb, List, [], ◌∷◌, ◌++◌, length}
+use Rattle.std.proofs.Common.{◌≡◌, ℕ, zero, suc, ◌+◌, ◌*◌, ◌/◌, ◌<◌, ◌≤◌, max, Bool, true, false, cond, eqb, ltb, List, [], ◌∷◌, ◌++◌, length}
 use Rattle.std.proofs.Common.{map, take, drop, Option, Some, None, refl, sym, ap, ◌∙◌, subst, inl, inr, append_assoc, arith}
-use Rattle.std.specs.Prelude.{◌&&◌, slice_get, filter, All}
+use Rattle.std.specs.Prelude.{slice_get, filter, All}
 use Rattle.std.specs.List.{flat_map, filter_map, cons_option, enumerate_from, range_with_len}
 use Rattle.std.specs.Option.{option_map}
 use Rattle.std.specs.Fork.{slice_chunk}
-use Rattle.std.proofs.lemmas.Bool.{cond-true, cond-false, cases_eq, eq-eqb, eqb-true, ne_eqb, and_parts, false≢true, and_right, ltb-true}
-use Rattle.std.proofs.lemmas.List.{append-nil, drop_all, drop-append-le, drop_at, take-append-drop, take-take, take_all, drop-take}
+use Rattle.std.proofs.lemmas.Bool.{cond-true, cond-false, cases_eq, eq-eqb, ne_eqb, and_parts, false≢true, and_right, ltb-true}
+use Rattle.std.proofs.lemmas.List.{append-nil, take-append-drop, take-take, take_all, drop-take}
 use Rattle.std.proofs.lemmas.List.Concat.{flat_map-append}
 use Rattle.std.proofs.lemmas.List.Elements.{All-head, All-tail}
 use Rattle.std.proofs.lemmas.List.Folds.{flat_map-map}

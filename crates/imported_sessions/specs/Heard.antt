@@ -1,5 +1,5 @@
 -- Sessions, as far as they are read.
-use Rattle.std.specs.Prelude.{ℕ, ◌≡◌, ◌==◌, nat_le, nat_lt, max, if◌then◌else◌, Bool, ◌&&◌, List, [], ◌∷◌, ◌++◌, length, map, take, drop, filter}
+use Rattle.std.specs.Prelude.{ℕ, ◌≡◌, nat_lt, max, if◌then◌else◌, List, [], ◌∷◌, ◌++◌, length, map, take, drop, filter}
 use Rattle.std.specs.Prelude.{Option, Some, None, Ok}
 use Rattle.std.specs.List.{flat_map, range_with_len}
 use Rattle.tcp_seq.specs.declared.segment.Way.TheVariants.{Home, Remote}

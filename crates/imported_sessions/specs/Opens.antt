@@ -1,6 +1,6 @@
 -- The OPENs of a capture's sessions, and the AS of the home side (RFC 4271, section 4.2; RFC 6793, section 4.1).
-use Rattle.std.specs.Prelude.{ℕ, ◌≡◌, ◌≤◌, ◌<◌, ◌==◌, nat_lt, if◌then◌else◌, Bool, true, false, not, ◌&&◌, List, [], length, drop, filter_map, unwrap_or}
-use Rattle.std.specs.Prelude.{Option, Some, None, option_map, IsSome, slice_get}
+use Rattle.std.specs.Prelude.{ℕ, ◌≡◌, ◌≤◌, ◌<◌, ◌==◌, nat_lt, if◌then◌else◌, Bool, true, false, not, ◌&&◌, List, length, drop, filter_map, unwrap_or}
+use Rattle.std.specs.Prelude.{Option, Some, None, slice_get}
 use Rattle.std.specs.Option.{option_map_or}
 use Rattle.std.specs.Result.{result_ok}
 use Rattle.std.specs.List.{list_any, range_with_len}

@@ -1,5 +1,5 @@
 -- The steps in which remotes say what is behind their openings.
-use Rattle.std.specs.Prelude.{ℕ, ◌≡◌, ◌≤◌, ◌<◌, ◌+◌, ◌/◌, suc, List, [], ◌∷◌, ◌++◌, length, map, filter, Bool, Some, slice_get}
+use Rattle.std.specs.Prelude.{ℕ, ◌≡◌, ◌≤◌, ◌<◌, ◌+◌, ◌/◌, suc, List, ◌∷◌, ◌++◌, length, map, filter, Bool, Some, slice_get}
 use Rattle.std.specs.List.{All, flat_map, range_with_len}
 use Rattle.std.specs.Fork.{slice_chunk}
 use Rattle.captured_streams.specs.declared.streams.Flow.{Flow}

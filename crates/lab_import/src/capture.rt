@@ -61,12 +61,12 @@ impl From<NoMemory> for Unimported {
     }
 }
 
-/// Reads the sessions of a capture.
-fn read_streams(alloc: Global, home: Option<u32>, file: &[u8]) -> Result<Streams, Unimported>
-    ensures streams { IfOk result (HasStreams home file.now) }
-    ensures fault { (fault : FaultValue) → result ≡ Err (stops.Fault fault) → IsFault home file.now fault }
+/// Reads the sessions of a capture. The file isn't kept: what it brought stands in the streams.
+fn read_streams(alloc: Global, home: Option<u32>, file: Octets) -> Result<Streams, Unimported>
+    ensures streams { IfOk result (HasStreams home file) }
+    ensures fault { (fault : FaultValue) → result ≡ Err (stops.Fault fault) → IsFault home file fault }
 {
-    let packets = match read_capture(alloc, file) {
+    let packets = match read_capture(alloc, &file) {
         Ok(packets) => packets,
         Err(CaptureStop::Form(place)) => return Err(Unimported::Fault(CaptureFault::Form(place))),
         Err(CaptureStop::NoMemory) => return Err(Unimported::NoMemory),
@@ -86,13 +86,18 @@ fn remote_of(peers: &[Peer], number: usize) -> Socket
     peers[number].remote
 }
 
-/// Imports a capture, pcap or pcapng: the text of a laboratory with its sessions of BGP over TCP and IPv4, in which each remote says just the octets that
-/// it says in the capture. `home` is the address of the home side; without it that is the end with port 179 (RFC 4271, section
-/// 4.2). The text is always one that `read_lab` accepts. A file that is no capture is refused first, then a hole in what a
-/// remote says, then a remote without an OPEN, then what has no room in an input.
-pub fn import_capture(alloc: Global, home: Option<u32>, file: &[u8]) -> Result<Octets, Unimported>
-    ensures imported { IfOk result (IsImported home file.now) }
-    ensures fault { (fault : FaultValue) → result ≡ Err (stops.Fault fault) → IsFault home file.now fault }
+/// Imports a capture, pcap or pcapng: the text of a laboratory with its sessions of BGP over TCP and IPv4, in which
+/// each remote says just the octets that it says in the capture. `home` is the address of the home side; without it
+/// that is the end with port 179 (RFC 4271, section 4.2). The text is always one that `read_lab` accepts. A file that
+/// is no capture is refused first, then a hole in what a remote says, then a remote without an OPEN, then what has no
+/// room in an input.
+pub fn import_capture(
+    alloc: Global,
+    home: Option<u32>,
+    file: Octets,
+) -> Result<Octets, Unimported>
+    ensures imported { IfOk result (IsImported home file) }
+    ensures fault { (fault : FaultValue) → result ≡ Err (stops.Fault fault) → IsFault home file fault }
 {
     let streams = read_streams(alloc, home, file)?;
     let imported = match import_sessions(alloc, &streams) {

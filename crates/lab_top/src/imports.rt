@@ -39,7 +39,7 @@ pub(crate) fn import_job<S: Source, K: Sink>(
         Err(ReadStop::Failed) => return Ok(without_run(READ_FAILED)),
         Err(ReadStop::NoMemory) => return Err(NoMemory),
     };
-    match import_capture(alloc, home, &file) {
+    match import_capture(alloc, home, file) {
         Ok(text) => Ok(end_with(sink, &text, DONE, None)),
         Err(Unimported::Fault(fault)) => end_refused(alloc, sink, fault),
         Err(Unimported::NoMemory) => Err(NoMemory),

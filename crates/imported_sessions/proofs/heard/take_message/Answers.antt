@@ -1,4 +1,4 @@
-use Rattle.std.proofs.Common.{◌≡◌, [], ◌++◌, ℕ, length, sym, ap, ◌∙◌, subst, rules, arith}
+use Rattle.std.proofs.Common.{◌≡◌, [], ◌++◌, sym, ap, ◌∙◌, subst, rules, arith}
 use Rattle.imported_sessions.specs.declared.heard.Stage.TheVariants.{Whole}
 use Rattle.imported_sessions.proofs.Behind.{Takes, takes_first, takes_joined, takes_apart, takes_later, opening_from}
 use Rattle.imported_sessions.proofs.heard.take_message.Goals as goal

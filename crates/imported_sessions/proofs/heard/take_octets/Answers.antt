@@ -1,4 +1,4 @@
-use Rattle.std.proofs.Common.{◌≡◌, ◌≤◌, ℕ, [], ◌++◌, List, length, take, map, refl, sym, ap, ◌∙◌, subst, rules}
+use Rattle.std.proofs.Common.{◌≡◌, ℕ, [], ◌++◌, List, take, map, refl, sym, ap, ◌∙◌, subst, rules}
 use Rattle.std.specs.Prelude.{None, option_to_list}
 use Rattle.bgp_types.specs.Header.{frame_at}
 use Rattle.bgp_types.proofs.FrameLaws.{front_frame}

@@ -1,4 +1,4 @@
-use Rattle.std.proofs.Common.{◌≡◌, drop, ap, ◌∙◌, subst, rules}
+use Rattle.std.proofs.Common.{◌≡◌, drop, ◌∙◌, subst, rules}
 use Rattle.attr_codec.specs.Decoding.{Stops}
 use Rattle.bgp_types.specs.Faults.{fault_in}
 use Rattle.bgp_types.specs.FirstFault.{message_of}

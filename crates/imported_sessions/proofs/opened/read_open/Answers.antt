@@ -1,4 +1,4 @@
-use Rattle.std.proofs.Common.{◌≡◌, take, drop, Some, subst}
+use Rattle.std.proofs.Common.{take, drop, subst}
 use Rattle.bgp_frame.proofs.StreamLaws.{front_is_whole}
 use Rattle.imported_sessions.specs.Heard.{IsMessageAt}
 use Rattle.imported_sessions.proofs.opened.read_open.Goals as goal

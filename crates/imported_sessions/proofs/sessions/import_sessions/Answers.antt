@@ -1,4 +1,4 @@
-use Rattle.std.proofs.Common.{◌≡◌, length, refl, sym, ap, ◌∙◌, subst}
+use Rattle.std.proofs.Common.{length, refl, sym, ◌∙◌, subst}
 use Rattle.imported_sessions.specs.Heard.{told_by}
 use Rattle.imported_sessions.specs.Opened.{AreAllOpened}
 use Rattle.imported_sessions.specs.Packed.{AreStepsOf}

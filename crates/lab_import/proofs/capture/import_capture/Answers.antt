@@ -18,7 +18,7 @@ pub returns-in-Err-NoOpen-clause-fault : goal.returns-in-Err-NoOpen-clause-fault
 returns-in-Err-NoOpen-clause-fault c = λ fault e.
     let remote = c.in-Err-NoOpen.remote in
     let same : NoOpen remote ≡ fault = cc (e) in
-    subst (IsFault c.args.home c.args.file.now) same
+    subst (IsFault c.args.home c.args.file) same
     (c.in_ok-streams.streams, c.in_ok-streams.ensures.streams, c.in-Err-NoOpen.ensures.stop remote (ap Err c.in-Err-NoOpen.field-0-is))
 
 pub remote_of-remote-requires : goal.remote_of-remote-requires
@@ -37,7 +37,7 @@ returns-in-Err-Beyond-clause-fault c = λ fault e.
     let at : slice_get c.deref.result.now beyond.peer ≡ Some there.0
     = subst (λ (b : Beyond). slice_get c.deref.result.now b.peer ≡ Some there.0) c.in-Err-Beyond.beyond-is there.1 in
     let same : Limit c.remote_of-remote.result beyond.octet ≡ fault = cc (e, ap (λ (b : Beyond). b.octet) c.in-Err-Beyond.beyond-is) in
-    subst (IsFault c.args.home c.args.file.now) same (record {
+    subst (IsFault c.args.home c.args.file) same (record {
       s = c.in_ok-streams.streams;
       i = c.in-Ok.imported;
       has = record { streams = c.in_ok-streams.ensures.streams; imported = c.in-Ok.ensures.import };
@@ -58,7 +58,7 @@ returns-then-not-branch-clause-fault c = λ fault e.
     = when_false (InputOf c.deref-2.result.now (input_of_import i)) (¬ InputOf c.deref-2.result.now (input_of_import i)) c.if-not-branch.true
     c.in_ok-is_read.ensures in
     let same : Unread ≡ fault = cc (e) in
-    subst (IsFault c.args.home c.args.file.now) same (record {
+    subst (IsFault c.args.home c.args.file) same (record {
       s = c.in_ok-streams.streams;
       i = i;
       has = record { streams = c.in_ok-streams.ensures.streams; imported = c.in-Ok.ensures.import };

@@ -9,7 +9,7 @@ use Rattle.lab_import.proofs.capture.read_streams.Goals as goal
 pub returns-in-Err-Form-clause-fault : goal.returns-in-Err-Form-clause-fault
 returns-in-Err-Form-clause-fault c = λ fault e.
     let same : Form c.in-Err-Form.place ≡ fault = cc (e) in
-    subst (IsFault c.args.home c.args.file.now) same (c.in-Err-Form.ensures.fault c.in-Err-Form.place (ap Err c.in-Err-Form.field-0-is))
+    subst (IsFault c.args.home c.args.file) same (c.in-Err-Form.ensures.fault c.in-Err-Form.place (ap Err c.in-Err-Form.field-0-is))
 
 pub returns-in-Ok-captured_streams-clause-streams : goal.returns-in-Ok-captured_streams-clause-streams
 returns-in-Ok-captured_streams-clause-streams c = record {
@@ -25,4 +25,4 @@ returns-in-Err-Hole-clause-fault c = λ fault e.
     let same : Missing hole ≡ fault = cc (e) in
     let is : IsHole c.args.home c.in-Ok.packets hole
     = subst (λ (ps : List Captured). IsHole c.args.home ps hole) c.deref.ensures (c.in-Err-Hole.ensures.hole hole (ap Err c.in-Err-Hole.field-0-is)) in
-    subst (IsFault c.args.home c.args.file.now) same (c.in-Ok.packets, c.in-Ok.ensures.capture, is)
+    subst (IsFault c.args.home c.args.file) same (c.in-Ok.packets, c.in-Ok.ensures.capture, is)
