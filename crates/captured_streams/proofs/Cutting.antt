@@ -1,5 +1,5 @@
 -- Segments in pieces.
-use Rattle.std.proofs.Common.{◌≡◌, ℕ, zero, suc, ◌-◌, ◌<◌, ◌≤◌, ◌^◌, List, [], ◌∷◌, ◌++◌, length, take, true, false, nat_le, refl, arith, ap, sym, subst, ◌∙◌}
+use Rattle.std.proofs.Common.{◌≡◌, ℕ, zero, suc, ◌-◌, ◌<◌, ◌≤◌, List, [], ◌∷◌, ◌++◌, length, true, false, nat_le, refl, arith, ap, sym, subst, ◌∙◌}
 use Rattle.std.specs.Prelude.{Result, Ok, Err, OnOk}
 use Rattle.std.specs.List.{All}
 use Rattle.std.proofs.lemmas.Bool.Decides.{nat_tests}
@@ -37,4 +37,5 @@ push_more (Err e) old mid new one rest s n some long one_is rest_is pushed after
 pub push_short : (r : Result (Unit {0}) NoMemory) (old mid new : List Directed) (one s : Directed) → one ≡ front s → IsShort s → mid ≡ old ++ one ∷ []
     → (All IsShort mid → OnOk r (All IsShort new)) → All IsShort old → OnOk r (All IsShort new)
 push_short r old mid new one s one_is short pushed after all =
-    after (subst (All IsShort) (sym pushed) (All-push IsShort old one all (subst IsShort (sym one_is) (omega (arith, length-take 4096 s.segment.octets, short)))))
+    let cut : IsShort one = subst IsShort (sym one_is) (omega (arith, length-take 4096 s.segment.octets, short)) in
+    after (subst (All IsShort) (sym pushed) (All-push IsShort old one all cut))

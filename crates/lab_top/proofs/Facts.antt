@@ -20,7 +20,8 @@ use Rattle.expect_view.specs.Expect.{all_hold, test_status}
 use Rattle.lab_top.specs.declared.views.ViewName.{ViewName}
 use Rattle.lab_top.specs.Forms.{summary_in, test_in}
 use Rattle.lab_top.specs.Views.{viewing}
-use Rattle.lab_top.specs.Ends.{AreRefused, AskToCheck, AskToRun, AskForJournal, AskForCapture, AskToTest, AskToView, RunsSource, AskToSum, AskToDrill, AskForLab}
+use Rattle.lab_top.specs.Ends.{AreRefused, AskToCheck, AskToRun, AskForJournal, AskForCapture, AskToTest}
+use Rattle.lab_top.specs.Ends.{AskToView, RunsSource, AskToSum, AskToDrill, AskForLab}
 use Rattle.lab_audit.specs.declared.audited.AuditEnd.{AuditEnd}
 use Rattle.lab_audit.specs.declared.audited.AuditEnd.TheVariants as audit_ends
 use Rattle.lab_top.specs.Ends.{AskToAudit, AskToImport, AskToMake, AskForLine, Audits, Imports, ReadsInput, ReadsText, ReadsCapture, SaysImport, audit_status}

@@ -143,7 +143,8 @@ audited_ends : (o n : Outside) (told : Told) (finish : Finish) → ReadsText o.l
 audited_ends o n told finish reads end = wrote told.text (audit_status told.end) (audits told.end refl reads refl end.0) end.1
 
 pub whole_audited : (o n : Outside) (text : List ℕ) (told : Told) (finish : Finish) → Took o.left n.left text → length text ≤ most_text
-    → IsAtEnd n.left → TellsOf text told.text told.end → EndsAudit told o.write_faults n.write_faults o.written n.written finish → Did jobs.Audit o n finish.status finish.lab
+    → IsAtEnd n.left → TellsOf text told.text told.end
+    → EndsAudit told o.write_faults n.write_faults o.written n.written finish → Did jobs.Audit o n finish.status finish.lab
 whole_audited o n text told finish took few end tells_of =
     audited_ends o n told finish (record { bytes = text; took = took; says = inl (end, few, tells_of) })
 

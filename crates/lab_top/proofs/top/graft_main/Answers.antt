@@ -1,4 +1,5 @@
-use Rattle.lab_top.proofs.Facts.{statuses, usage_told, refused_words, made_told, line_told, checked_told, audited_told, imported_told, denied, bad_input, bad_unwritten}
+use Rattle.lab_top.proofs.Facts.{statuses, usage_told, refused_words, made_told, line_told, checked_told, audited_told, imported_told}
+use Rattle.lab_top.proofs.Facts.{denied, bad_input, bad_unwritten}
 use Rattle.lab_top.proofs.Facts.{read_failed, write_failed, nothing_written, failed, run_ended, no_run, ran, input_taken, drilled, headline}
 use Rattle.lab_top.proofs.Facts.{reported, summed, journaled, captured, tested, viewed}
 use Rattle.lab_top.proofs.top.graft_main.Goals as goal
