@@ -26,7 +26,7 @@ module _ (home : Option ℕ) (packets : List Captured) (i : ℕ) (p : Captured) 
   one_more old new r d so_far is one joins =
       joins ∙ ap (λ (xs : List Directed). xs ++ pieces 16 d) so_far
       ∙ ap (λ (xs : List Directed). directed home (take i packets) ++ xs)
-          (sym (append-nil (pieces 16 d)) ∙ ap (flat_map in_pieces) (sym one ∙ ap (directed_in home) is))
+      (sym (append-nil (pieces 16 d)) ∙ ap (flat_map in_pieces) (sym one ∙ ap (directed_in home) is))
       ∙ sym directed_more
 
   pub none_more : (old : List Directed) (r : Result Segment LeftOut) → old ≡ directed home (take i packets) → r ≡ read_packet p

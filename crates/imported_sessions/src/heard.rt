@@ -187,7 +187,14 @@ pub(crate) fn hear(
         steps: Vec::new(alloc),
     };
     for flow in flows {
-        take_flow(alloc, &mut heard.sessions, &mut heard.steps, flow, opened, home_as)?;
+        take_flow(
+            alloc,
+            &mut heard.sessions,
+            &mut heard.steps,
+            flow,
+            opened,
+            home_as,
+        )?;
     }
     Ok(heard)
 }

@@ -55,7 +55,14 @@ pub fn import_sessions(alloc: Global, streams: &Streams) -> Result<Imported, Imp
     let home_as = home_as(alloc, &opened)?;
     let home_id = home_id(&opened);
     let mut heard = hear(alloc, streams.peers.len(), &streams.flows, &opened, home_as)?;
-    let kept = keep(alloc, streams, opened, home_as, &heard.sessions, &mut heard.steps)?;
+    let kept = keep(
+        alloc,
+        streams,
+        opened,
+        home_as,
+        &heard.sessions,
+        &mut heard.steps,
+    )?;
     Ok(Imported {
         home_as,
         home_id,

@@ -91,11 +91,7 @@ fn remote_of(peers: &[Peer], number: usize) -> Socket
 /// that is the end with port 179 (RFC 4271, section 4.2). The text is always one that `read_lab` accepts. A file that
 /// is no capture is refused first, then a hole in what a remote says, then a remote without an OPEN, then what has no
 /// room in an input.
-pub fn import_capture(
-    alloc: Global,
-    home: Option<u32>,
-    file: Octets,
-) -> Result<Octets, Unimported>
+pub fn import_capture(alloc: Global, home: Option<u32>, file: Octets) -> Result<Octets, Unimported>
     ensures imported { IfOk result (IsImported home file) }
     ensures fault { (fault : FaultValue) → result ≡ Err (stops.Fault fault) → IsFault home file fault }
 {
