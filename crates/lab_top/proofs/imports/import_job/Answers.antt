@@ -11,7 +11,7 @@ returns-in-Err-TooLong g c =
 pub returns-in-Ok-import_capture : goal.returns-in-Ok-import_capture
 returns-in-Ok-import_capture g c =
     let read = c.in-Ok.ensures in
-    let told = c.deref-in-Ok-import_capture in
+    let told = c.deref in
     let written = subst (λ text. IsImported c.args.home c.in-Ok.file text) (sym told.ensures) c.in-Ok-import_capture.ensures.imported in
     imported_ends c.args.home _ _ c.in-Ok.file told.result.now _ _ read.whole read.end.0 read.end.1 written c.end_with.ensures.lab c.end_with.ensures.writes
 
