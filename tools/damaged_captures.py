@@ -10,8 +10,8 @@ another place. Some are random octets alone. The seed decides which. The program
 seconds, with the status and the text of import_again.py, and nothing on standard error: one that it answers otherwise is kept in the current
 folder as damaged.N.
 
-Then come captures of 100 megabytes (--large; 0 for none): one remote's octets, which have no room; octets of the home side; segments without
-octets; packets of other ports; and one record. Each is told with its answer, its time, and the most memory that the program had, which is to be
+Then come captures of 100 megabytes (--large; 0 for none): one remote's octets, which have no room; octets of the home side; packets that are
+each of a remote of its own; segments without octets; packets of other ports; and one record. Each is told with its answer, its time, and the most memory that the program had, which is to be
 at most four times the capture and 16 megabytes more.
 
 How often each answer came is printed. The status is 1 where an answer was wrong, or a large capture took more memory.
@@ -184,6 +184,9 @@ def large(size):
     yield "one remote's octets", (head, begin, many(lambda place: record(REMOTE_END, HOME_END, after + place * len(KEEPALIVES), KEEPALIVES)))
     yield "octets of the home side", (head, begin, many(lambda place: record(HOME_END, REMOTE_END, 1 + place * len(KEEPALIVES), KEEPALIVES)))
     yield "octets of the home side, one a packet", (head, begin, many(lambda place: record(HOME_END, REMOTE_END, 1 + place, b"x")))
+    remote = lambda place: (bytes([10, place >> 16 & 255, place >> 8 & 255, place & 255]), 50000)
+    yield "one octet of each remote", (head, b"", many(lambda place: record(remote(place), HOME_END, 0, b"x")))
+    yield "an OPEN of each remote", (head, b"", many(lambda place: record(remote(place), HOME_END, 0, OPENING)))
     yield "segments without octets", (head, begin, many(lambda place: record(HOME_END, REMOTE_END, 1, b"", ACK)))
     other = (bytes([192, 0, 2, 9]), 443)
     yield "packets of other ports", (head, begin, many(lambda place: record(REMOTE_END, other, place, bytes(1400))))
